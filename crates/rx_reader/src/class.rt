@@ -171,6 +171,8 @@ fn class_range(
         return Ok(item_of(low));
     }
     if cursor.begins(&['-', '-']) {
+        // By a call (DECISIONS: large values are let go by name).
+        drop(low);
         let hyphen = cursor.at();
         cursor.bump_by(2);
         return Err(cursor.refuse_from(hyphen, SyntaxErrorKind::Unsupported));
@@ -178,10 +180,16 @@ fn class_range(
     cursor.bump();
     cursor.skip_white(syntax.skips);
     if cursor.is_at_end() {
+        drop(low);
         return Err(opening.refuse(SyntaxErrorKind::UnclosedClass));
     }
-    let high = member(cursor, syntax)?;
-    range_of(cursor, start, low, high)
+    match member(cursor, syntax) {
+        Ok(high) => range_of(cursor, start, low, high),
+        Err(error) => {
+            drop(low);
+            Err(error)
+        }
+    }
 }
 
 /// Reads an item, where the class neither ends nor closes.

@@ -1,5 +1,6 @@
 //! The refusals of a pattern.
 ghost use Rattle.std.specs.Prelude.{◌≡◌};
+ghost use Rattle.rx_reader.specs.Refusal.{text_of};
 ghost use Rattle.rx_reader.specs.declared.error.ParseError.TheVariants.{Memory as OutOfMemory};
 
 use rx_memory::Memory;
@@ -48,28 +49,36 @@ pub enum SyntaxErrorKind {
 
 impl fmt::Display for SyntaxErrorKind {
     ghost use Rattle.std.specs.Prelude.{Some};
-    ghost use Rattle.rx_reader.specs.Refusal.{text_of};
 
     ghost output = { λ kind. Some (text_of kind) };
 
     fn fmt<W: fmt::Write>(&self, f: &mut fmt::Formatter<W>) -> fmt::Result {
+        f.write_str(self.text())
+    }
+}
+
+impl SyntaxErrorKind {
+    /// What is wrong, in words.
+    fn text(&self) -> &'static str
+        ensures { result.now ≡ text_of self.now }
+    {
         match self {
-            SyntaxErrorKind::UnclosedGroup => write!(f, "unclosed group"),
-            SyntaxErrorKind::UnopenedGroup => write!(f, "unopened group"),
-            SyntaxErrorKind::UnclosedClass => write!(f, "unclosed class"),
-            SyntaxErrorKind::ClassRange => write!(f, "bad class range"),
-            SyntaxErrorKind::RepeatNothing => write!(f, "repetition of nothing"),
-            SyntaxErrorKind::RepeatCount => write!(f, "bad repetition count"),
-            SyntaxErrorKind::Escape => write!(f, "bad escape"),
-            SyntaxErrorKind::GroupName => write!(f, "bad group name"),
-            SyntaxErrorKind::GroupNameTwice => write!(f, "group name used twice"),
-            SyntaxErrorKind::Flag => write!(f, "bad flag"),
-            SyntaxErrorKind::NestLimit => write!(f, "nesting too deep"),
-            SyntaxErrorKind::Unsupported => write!(f, "unsupported syntax"),
-            SyntaxErrorKind::Utf8 => write!(f, "pattern can match invalid UTF-8"),
-            SyntaxErrorKind::Property => write!(f, "unknown property"),
-            SyntaxErrorKind::UnicodeOff => write!(f, "Unicode not allowed here"),
-            SyntaxErrorKind::LineTerminator => write!(f, "line terminator is not ASCII"),
+            SyntaxErrorKind::UnclosedGroup => "unclosed group",
+            SyntaxErrorKind::UnopenedGroup => "unopened group",
+            SyntaxErrorKind::UnclosedClass => "unclosed class",
+            SyntaxErrorKind::ClassRange => "bad class range",
+            SyntaxErrorKind::RepeatNothing => "repetition of nothing",
+            SyntaxErrorKind::RepeatCount => "bad repetition count",
+            SyntaxErrorKind::Escape => "bad escape",
+            SyntaxErrorKind::GroupName => "bad group name",
+            SyntaxErrorKind::GroupNameTwice => "group name used twice",
+            SyntaxErrorKind::Flag => "bad flag",
+            SyntaxErrorKind::NestLimit => "nesting too deep",
+            SyntaxErrorKind::Unsupported => "unsupported syntax",
+            SyntaxErrorKind::Utf8 => "pattern can match invalid UTF-8",
+            SyntaxErrorKind::Property => "unknown property",
+            SyntaxErrorKind::UnicodeOff => "Unicode not allowed here",
+            SyntaxErrorKind::LineTerminator => "line terminator is not ASCII",
         }
     }
 }

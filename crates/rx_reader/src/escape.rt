@@ -364,26 +364,34 @@ fn lettered(cursor: &mut Cursor, start: usize) -> Result<Escaped, ParseError>
     ensures value { (from : Place) → start ≡ from.at → Reads result (lettered from (place cursor.old)) (place cursor.new) }
     ensures progress { unread cursor.new ≤ unread cursor.old }
 {
-    if cursor.bump_over(&['x']) {
-        return hex(cursor, start, 2);
-    }
-    if cursor.bump_over(&['u']) {
-        return hex(cursor, start, 4);
-    }
-    if cursor.bump_over(&['U']) {
-        return hex(cursor, start, 8);
-    }
-    if cursor.bump_over(&['p']) {
-        return property(cursor, start, false);
-    }
-    if cursor.bump_over(&['P']) {
-        return property(cursor, start, true);
-    }
-    if cursor.bump_over(&['b']) {
-        return Ok(Escaped::Assertion(boundary(cursor)));
-    }
     let c = cursor.first();
-    known(cursor, start, c)
+    match c {
+        'x' => {
+            cursor.bump();
+            hex(cursor, start, 2)
+        }
+        'u' => {
+            cursor.bump();
+            hex(cursor, start, 4)
+        }
+        'U' => {
+            cursor.bump();
+            hex(cursor, start, 8)
+        }
+        'p' => {
+            cursor.bump();
+            property(cursor, start, false)
+        }
+        'P' => {
+            cursor.bump();
+            property(cursor, start, true)
+        }
+        'b' => {
+            cursor.bump();
+            Ok(Escaped::Assertion(boundary(cursor)))
+        }
+        _ => known(cursor, start, c),
+    }
 }
 
 /// Reads an escape, from the backslash on; digits of base 8 where `octal` is set.

@@ -76,9 +76,14 @@ impl Level {
         ensures { OnOk result (gathered self.new ≡ push_item (gathered self.old) item) }
     {
         if let Some((flags, character)) = item.as_literal() {
+            // By a call (DECISIONS: large values are let go by name).
+            drop(item);
             return self.push_literal(flags, character);
         }
-        self.end_run()?;
+        if let Err(error) = self.end_run() {
+            drop(item);
+            return Err(error);
+        }
         self.items.push(Item::One(item))?;
         Ok(())
     }

@@ -33,17 +33,23 @@ pub(crate) fn read_name(cursor: &mut Cursor) -> Result<Text, ParseError>
     let name = name_of(cursor.alloc(), cursor.rest())?;
     let count = name.len();
     cursor.bump_by(count);
-    if count == 0 {
-        return Err(cursor.refuse_from(start, SyntaxErrorKind::GroupName));
-    }
     // The piece ends before what fits no name (DECISIONS: the piece of a group's name that is refused).
-    if !cursor.is_at(&['>']) {
+    if count == 0 || !cursor.is_at(&['>']) {
+        // By a call (DECISIONS: large values are let go by name).
+        drop(name);
         return Err(cursor.refuse_from(start, SyntaxErrorKind::GroupName));
     }
     let piece = cursor.piece_from(start);
     cursor.bump();
-    if !cursor.add_name(&name)? {
-        return Err(piece.refuse(SyntaxErrorKind::GroupNameTwice));
+    match cursor.add_name(&name) {
+        Ok(true) => Ok(Text::new(cursor.alloc(), name)?),
+        Ok(false) => {
+            drop(name);
+            Err(piece.refuse(SyntaxErrorKind::GroupNameTwice))
+        }
+        Err(_) => {
+            drop(name);
+            Err(ParseError::Memory)
+        }
     }
-    Ok(Text::new(cursor.alloc(), name)?)
 }

@@ -50,8 +50,16 @@ fn repetitions(
     cursor.skip(flags);
     while cursor.is_at(&['*', '+', '?', '{']) {
         let start = cursor.at();
-        let operator = read_operator(cursor, flags)?;
+        let operator = match read_operator(cursor, flags) {
+            Ok(operator) => operator,
+            Err(error) => {
+                // By a call (DECISIONS: large values are let go by name).
+                drop(item);
+                return Err(error);
+            }
+        };
         if item.depth() >= config.get_nest_limit() {
+            drop(item);
             return Err(cursor.refuse_from(start, SyntaxErrorKind::NestLimit));
         }
         item = Ast::repetition(
@@ -144,8 +152,16 @@ impl<'a> Parser<'a> {
         } = frame;
         let inside = mem::replace(&mut self.level, level);
         self.flags = flags;
-        let body = inside.whole()?;
+        let body = match inside.whole() {
+            Ok(body) => body,
+            Err(_) => {
+                drop(kind);
+                return Err(ParseError::Memory);
+            }
+        };
         if body.depth() >= self.config.get_nest_limit() {
+            drop(body);
+            drop(kind);
             return Err(self.cursor.refuse_from(start, SyntaxErrorKind::NestLimit));
         }
         let group = Ast::group(self.cursor.alloc(), kind, body)?;
@@ -211,7 +227,10 @@ pub fn read(alloc: Global, pattern: &str, config: &Config) -> Result<Ast, ParseE
     let mut parser = Parser::new(alloc, pattern, *config);
     while !parser.cursor.is_at_end() {
         // The first fault ends it (DECISIONS: the reader goes from left to right).
-        parser.step()?;
+        if let Err(error) = parser.step() {
+            drop(parser);
+            return Err(error);
+        }
     }
     parser.finish()
 }

@@ -8,7 +8,6 @@ use Rattle.rx_model.specs.Runs.{nowhere}
 use Rattle.rx_model.specs.Graph.{at}
 use Rattle.rx_model.specs.Matches.{IsMatch, IsStart, IsSought, MayStart, part_of}
 use Rattle.rx_model.specs.Search.{Patterns, WhichCaptures, Match, Anchor, free, anchored, anchored_to, told_of, is_anchored, slot_of, next_match}
-use Rattle.rx_model.proofs.lemmas.matches.MatchLemmas.{next-within}
 use Rattle.rx_model.proofs.lemmas.matches.NarrowLemmas.{next-narrowed}
 use Rattle.rx_model.proofs.lemmas.matches.WithinLemmas.{next-run, match-within, match-means, match-next, run-later, trace-later}
 use Rattle.rx_model.proofs.lemmas.meaning.CoverLemmas.{means-run}

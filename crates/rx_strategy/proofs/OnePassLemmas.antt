@@ -7,7 +7,7 @@ use Rattle.std.specs.Prelude.{Bool, true, false, ◌&&◌, ◌||◌, ◌<◌, �
 use Rattle.rx_model.specs.Expression.{Expression, alternation}
 use Rattle.rx_model.specs.Matches.{IsMatch}
 use Rattle.rx_model.specs.Runs.{Trace}
-use Rattle.rx_model.specs.Search.{Patterns, Anchor, free, anchored, anchored_to, is_anchored, Match, told_of, next_match, slot_value}
+use Rattle.rx_model.specs.Search.{Patterns, Anchor, free, anchored, anchored_to, is_anchored, Match, told_of, next_match}
 use Rattle.rx_model.proofs.lemmas.runs.FirstLemmas.{none-is-some}
 use Rattle.rx_model.proofs.lemmas.runs.RunLemmas.{by_test}
 use Rattle.rx_search.specs.Input.{InputValue, next_in}
@@ -24,7 +24,7 @@ use Rattle.rx_nfa.specs.Nfa.{Nfa, IsInRange, IsNfaOf}
 use Rattle.rx_onepass_build.specs.Config.{kind_of, each_of}
 use Rattle.rx_onepass.specs.Dfa.{Dfa, Fits}
 use Rattle.rx_onepass.specs.Patterns.{IsBuiltFrom}
-use Rattle.rx_onepass.specs.Search.{run_in, match_from, started_at, slot_of, AreSlotsOf, IsFound, IsRefusal, IsUnsupported, taken_as}
+use Rattle.rx_onepass.specs.Search.{run_in, match_from, started_at, AreSlotsOf, IsFound, IsRefusal, IsUnsupported, taken_as}
 use Rattle.rx_onepass.proofs.lemmas.AgreeLemmas.{exists-told, next-told, match-told, slot-left}
 use Rattle.rx_onepass.proofs.lemmas.PlaceLemmas.{told-pattern, told-places}
 use Rattle.rx_strategy.specs.Config as configs

@@ -1,5 +1,5 @@
 -- Which one-pass DFA a core has, which inputs it serves, and what its cache has room for.
-use Rattle.std.specs.Prelude.{◌≡◌, ◌≢◌, ℕ, ◌+◌, ◌*◌, Bool, true, false, ◌&&◌, ◌||◌, nat_lt, length, Option, Some, None, is_some, IfSome, IsSomeAnd}
+use Rattle.std.specs.Prelude.{◌≡◌, ◌≢◌, ℕ, ◌+◌, ◌*◌, Bool, true, ◌&&◌, ◌||◌, nat_lt, length, Option, Some, None, is_some, IfSome, IsSomeAnd}
 use Rattle.rx_model.specs.Expression.{Expression}
 use Rattle.rx_model.specs.Look.{word_unicode, word_unicode_negate}
 use Rattle.rx_model.specs.Search.{is_anchored}

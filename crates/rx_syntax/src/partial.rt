@@ -61,8 +61,17 @@ impl PartialClass {
     fn with_new_set(self, key: SetKey, known: &mut KnownSets) -> Result<PartialClass, Memory>
         ensures { (ranges : List (ℕ × ℕ)) → IsOf self ranges → IfOk result (λ class. IsOf class (ranges ++ scalars_of key)) }
     {
-        let scalars = known.scalars(key)?;
-        let members = self.members.with_class(&scalars)?;
+        let scalars = match known.scalars(key) {
+            Ok(scalars) => scalars,
+            Err(error) => {
+                // By a call (DECISIONS: large values are let go by name).
+                drop(self);
+                return Err(error);
+            }
+        };
+        let gathered = self.members.with_class(&scalars);
+        drop(scalars);
+        let members = gathered?;
         let mut sets = self.sets;
         sets.push(key)?;
         Ok(PartialClass { members, sets })

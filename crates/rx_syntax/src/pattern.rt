@@ -34,7 +34,10 @@ pub fn parse_with(alloc: Global, pattern: &str, config: &Config) -> Result<Hir, 
     ensures { Answers result (reads config.now (chars pattern.now)) }
 {
     let ast = read_with(alloc, pattern, config)?;
-    translate_with(alloc, &ast, config)
+    let translated = translate_with(alloc, &ast, config);
+    // By a call (DECISIONS: large values are let go by name).
+    drop(ast);
+    translated
 }
 
 /// What a pattern reads as, before it is translated: for a caller that reads all its patterns first.

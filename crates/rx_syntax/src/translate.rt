@@ -94,10 +94,14 @@ fn group(alloc: Global, kind: &GroupKind, sub: Hir) -> Result<Hir, Memory>
     match kind {
         GroupKind::NonCapturing => Ok(sub),
         GroupKind::CaptureIndex(index) => capture(alloc, *index, None, sub),
-        GroupKind::CaptureName { index, name } => {
-            let name = text(alloc, name.as_slice())?;
-            capture(alloc, *index, Some(name), sub)
-        }
+        GroupKind::CaptureName { index, name } => match text(alloc, name.as_slice()) {
+            Ok(name) => capture(alloc, *index, Some(name), sub),
+            Err(error) => {
+                // By a call (DECISIONS: large values are let go by name).
+                drop(sub);
+                Err(error)
+            }
+        },
     }
 }
 

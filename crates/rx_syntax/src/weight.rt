@@ -100,6 +100,14 @@ impl Weight {
         }
     }
 
+    /// The same, of an expression that was made to be weighed: it is let go.
+    fn of_made(hir: Hir) -> Weight
+        requires { IsAtom hir }
+        ensures { result ≡ weight_of hir }
+    {
+        Weight::of(&hir)
+    }
+
     /// One after another.
     fn followed(self, next: Weight) -> Weight
         ensures { result ≡ followed self next }

@@ -11,6 +11,10 @@ use Rattle.rx_limited.specs.declared.retry_error.Quadratic.TheVariants.{Below, A
 use Rattle.rx_limited.specs.declared.retry_error.RetryError.{RetryError}
 use Rattle.rx_limited.specs.declared.retry_error.RetryError.TheVariants.{Quadratic, Fail, Memory}
 use Rattle.rx_search.specs.Matches.{HalfMatchValue}
+use Rattle.rx_attempts.specs.Stops.{StopsBy}
+use Rattle.rx_attempts.specs.declared.patience.Stop.TheVariants.{Retry, Dense}
+use Rattle.rx_attempts.specs.declared.patience.Stop.{Stop}
+use Rattle.rx_attempts.specs.declared.patience.Patience.{Patience}
 use Rattle.rx_attempts.specs.Inputs.{up_to, from_start}
 use Rattle.rx_attempts.specs.Candidates.{IsTaken, IsLeastRead}
 use Rattle.rx_attempts.specs.Premises.{NoSuffixBefore, NoInnerBefore}
@@ -84,3 +88,9 @@ module _ (fwd rev : Dfa) (needles : List (List ℕ)) (v : InputValue) (gives_up 
   inner-by-end (Quadratic met) f = absurd f
   inner-by-end (Fail offset) f = inl f
   inner-by-end Memory f = inl f
+
+-- a stop is one for each weaker reason too
+pub stops-weaker : (patience : Patience) (P Q : RetryError → Type 0) (stop : Stop) → ((e : RetryError) → P e → Q e) → StopsBy patience P stop
+    → StopsBy patience Q stop
+stops-weaker patience P Q (Retry error) f h = f error h
+stops-weaker patience P Q Dense f h = h

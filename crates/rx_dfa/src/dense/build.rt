@@ -5,7 +5,8 @@ ghost use Rattle.rx_search.specs.ByteClasses.{alphabet_len, IsLeastPower};
 ghost use Rattle.rx_dfa.specs.Automaton.{Dfa};
 ghost use Rattle.rx_dfa.specs.Alphabet.{IsAlphabetOf, dfa_of};
 ghost use Rattle.rx_dfa.specs.Numbers.{settled};
-ghost use Rattle.rx_dfa.specs.Table.{IsRow, AreRows, AreStarts};
+ghost use Rattle.rx_dfa.specs.Table.{IsRow, AreRows, AreStarts, IsDense};
+ghost use Rattle.rx_dfa.specs.DenseView.{value_of};
 ghost use Rattle.rx_dfa.specs.Found.{AreFound, Grows, IsMade, keys_in, plain_keys, special_keys};
 ghost use Rattle.rx_dfa.specs.Job.{dfa_in, IsServed, IsJob};
 ghost use Rattle.rx_dfa.specs.Work.{AreDrawn};
@@ -46,31 +47,105 @@ impl Dense {
         ensures full { IfOk result (IsFullTable limit) }
         ensures err { IfErr result (IsNoTable nfa kind byte_classes limit) }
     {
-        let alphabet = Alphabet::new(alloc, &nfa, byte_classes)?;
-        // That its parts fit together is what this call ensures.
-        let _states = nfa.states_len();
-        let stride2 = stride2_of(&alphabet.classes);
-        let stride = stride_of(stride2);
-        let mut found = Found::new(alloc, stride, limit)?;
-        let drawn = draw(alloc, &nfa, kind, &alphabet, &mut found)?;
-        let Drawn { table, starts } = drawn;
-        let matches = matches_of(alloc, found.special.as_slice())?;
-        let plain = found.plain.len();
-        let Some(dead) = StateID::new(plain * found.stride) else {
-            return Err(BuildError::Memory);
-        };
+        let parts = parts_of(alloc, &nfa, kind, byte_classes, limit)?;
         Ok(Dense {
             nfa,
             kind,
-            alphabet,
-            stride2,
-            table,
-            dead,
-            starts,
-            matches,
-            found: Snapshot::of(&found),
+            alphabet: parts.alphabet,
+            stride2: parts.stride2,
+            table: parts.table,
+            dead: parts.dead,
+            starts: parts.starts,
+            matches: parts.matches,
+            found: parts.found,
         })
     }
+}
+
+/// What a full DFA has beside the NFA.
+#[derive(Drop)]
+struct Parts {
+    alphabet: Alphabet,
+    stride2: usize,
+    table: Vec<StateID>,
+    dead: StateID,
+    starts: Vec<StateID>,
+    matches: Vec<Vec<PatternID>>,
+    found: Snapshot<Found>,
+}
+
+/// What the full DFA of the NFA has beside it.
+fn parts_of(
+    alloc: Global,
+    nfa: &NFA,
+    kind: MatchKind,
+    byte_classes: bool,
+    limit: Option<usize>,
+) -> Result<Parts, BuildError>
+    ensures dense { IfOk result (λ p. IsDense (value_of nfa.now kind p.alphabet p.stride2 p.table.items p.dead p.starts.items
+        (map vec_items p.matches.items) p.found.value)) }
+    ensures dfa { IfOk result (λ p. IsDfaOf nfa.now kind byte_classes (dfa_of nfa.now kind p.alphabet)) }
+    ensures full { IfOk result (λ p. IsFullTable limit (value_of nfa.now kind p.alphabet p.stride2 p.table.items p.dead p.starts.items
+        (map vec_items p.matches.items) p.found.value)) }
+    ensures err { IfErr result (IsNoTable nfa.now kind byte_classes limit) }
+{
+    let alphabet = Alphabet::new(alloc, nfa, byte_classes)?;
+    // That its parts fit together is what this call ensures.
+    let _states = nfa.states_len();
+    let stride2 = stride2_of(&alphabet.classes);
+    let stride = stride_of(stride2);
+    let mut found = Found::new(alloc, stride, limit)?;
+    let laid = lay(alloc, nfa, kind, &alphabet, &mut found)?;
+    Ok(Parts {
+        alphabet,
+        stride2,
+        table: laid.table,
+        dead: laid.dead,
+        starts: laid.starts,
+        matches: laid.matches,
+        found: Snapshot::of(&found),
+    })
+}
+
+/// The table and the starts, the dead state and the patterns that match.
+#[derive(Drop)]
+struct Laid {
+    table: Vec<StateID>,
+    starts: Vec<StateID>,
+    dead: StateID,
+    matches: Vec<Vec<PatternID>>,
+}
+
+/// Makes the table of this NFA's DFA, with all states that it leads to.
+fn lay(
+    alloc: Global,
+    nfa: &NFA,
+    kind: MatchKind,
+    alphabet: &Alphabet,
+    found: &mut Found,
+) -> Result<Laid, BuildError>
+    requires served { IsServed (dfa_of nfa.now kind alphabet.now) alphabet.now.words }
+    requires wide { length alphabet.now.bytes.items < found.old.stride }
+    requires found { AreFound (dfa_of nfa.now kind alphabet.now) found.old }
+    ensures grows { Grows found.old found.new }
+    ensures made { IsMade (dfa_of nfa.now kind alphabet.now) found.old found.new
+        (λ laid. AreDrawn (dfa_of nfa.now kind alphabet.now) found.new laid.table.items laid.starts.items) result }
+    ensures dead { IfOk result (λ laid. laid.dead ≡ length (plain_keys found.new) * found.new.stride) }
+    ensures matches { IfOk result (λ laid. map vec_items laid.matches.items ≡ map (λ k. k.matches.items) found.new.special.keys) }
+{
+    let drawn = draw(alloc, nfa, kind, alphabet, found)?;
+    let Drawn { table, starts } = drawn;
+    let matches = matches_of(alloc, found.special.as_slice())?;
+    let plain = found.plain.len();
+    let Some(dead) = StateID::new(plain * found.stride) else {
+        return Err(BuildError::Memory);
+    };
+    Ok(Laid {
+        table,
+        starts,
+        dead,
+        matches,
+    })
 }
 
 /// How many cells a row has: 2 to this power.

@@ -1,4 +1,5 @@
 pub mod AcceptLemmas
+pub mod AcceptingLemmas
 pub mod AccountedLemmas
 pub mod BuiltLemmas
 pub mod LoopLemmas
@@ -16,3 +17,4 @@ pub mod PieceLemmas
 pub mod LastLemmas
 pub mod CountLemmas
 pub mod DigitsBuilt
+pub mod UnmadeLemmas

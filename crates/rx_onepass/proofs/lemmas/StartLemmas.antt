@@ -16,7 +16,7 @@ get-none [] i e = omega arith
 get-none (x ∷ xs) zero e = none-is-some (sym e)
 get-none (x ∷ xs) (suc i) e = let le = get-none xs i e in omega arith
 
-get-past : {A : Type 0} (xs : List A) (i : ℕ) → length xs ≤ i → slice_get xs i ≡ None
+pub get-past : {A : Type 0} (xs : List A) (i : ℕ) → length xs ≤ i → slice_get xs i ≡ None
 get-past [] i le = refl
 get-past (x ∷ xs) zero le = absurd (omega arith)
 get-past (x ∷ xs) (suc i) le = get-past xs i (omega arith)

@@ -50,6 +50,23 @@ module _ (n : ℕ) (before after : List ℕ) (h : AreInverse n before after) (i 
   pub swapped-value : (k : ℕ) → slice_index swapped k ≡ (if k == j then a else if k == i then b else slice_index before k)
   swapped-value k = set-two before i j b a k (subst (λ m. i < m) (sym h.before_len) one) (subst (λ m. j < m) (sym h.before_len) other)
 
+  -- the same by what stood in the other's place
+  pub swapped-values : (k : ℕ) → slice_index swapped k
+      ≡ (if k == i then slice_index before j else if k == j then slice_index before i else slice_index before k)
+  swapped-values k =
+      by_test (k == i)
+      (λ e.
+      by_test (k == j)
+      (λ f.
+      let same : i ≡ j = grind (arith, nat_tests) in
+      let value = rw f at (swapped-value k) in
+      rw e (value ∙ a_is ∙ ap (λ m. slice_index before m) same))
+      (λ f. let value = rw (f, e) at (swapped-value k) in rw e (value ∙ b_is)))
+      (λ e.
+      by_test (k == j)
+      (λ f. let value = rw f at (swapped-value k) in rw (e, f) (value ∙ a_is))
+      (λ f. let value = rw (f, e) at (swapped-value k) in rw (e, f) value))
+
   after-value : (r : ℕ) → slice_index swapped_after r ≡ (if r == a then j else if r == b then i else slice_index after r)
   after-value r = set-two after b a i j r (subst (λ m. b < m) (sym h.after_len) b-below) (subst (λ m. a < m) (sym h.after_len) a-below)
 

@@ -109,21 +109,18 @@ impl Core {
         ensures onepass { IfOk result (λ core. (h : Expression) → AreOf h info.properties → IsOnePassBeside config.now nfa h core.onepass) }
         ensures dfas { IfOk result (λ core. AreDfasBeside config.now nfa reverse core.dfas) }
     {
+        let parts = Parts::new(alloc, config, &nfa, reverse.as_ref(), &info, &pre)?;
         let kind = config.get_match_kind();
-        let onepass = OnePass::new(alloc, config, &nfa, &info)?;
-        let backtrack = backtracker(config, &nfa, &pre)?;
-        let dfas = Dfas::new(alloc, config, &nfa, reverse.as_ref())?;
-        let own = shared(pre.as_ref())?;
         Ok(Core {
-            pikevm: PikeVM::build_from_nfa(nfa, kind, own),
+            pikevm: PikeVM::build_from_nfa(nfa, kind, parts.own),
             kind,
-            onepass,
-            backtrack,
+            onepass: parts.onepass,
+            backtrack: parts.backtrack,
             which_captures: config.get_which_captures(),
             pre,
             info,
             reverse,
-            dfas,
+            dfas: parts.dfas,
         })
     }
 
@@ -310,6 +307,48 @@ impl Core {
             WhichCaptures::Implicit => true,
             WhichCaptures::None => false,
         }
+    }
+}
+
+/// What a core has beside its NFAs and what is known of its patterns. A function of its own makes it, so that one way out alone
+/// lets go of these (DECISIONS: large values are let go by name).
+#[derive(Drop)]
+struct Parts {
+    /// The prefilter once more, for the PikeVM.
+    own: Option<Prefilter>,
+    backtrack: Option<BoundedBacktracker>,
+    onepass: OnePass,
+    dfas: Dfas,
+}
+
+impl Parts {
+    /// The parts for this NFA and the one that reads backwards, if that is there.
+    fn new(
+        alloc: Global,
+        config: &Config,
+        nfa: &NFA,
+        reverse: Option<&NFA>,
+        info: &RegexInfo,
+        pre: &Option<Prefilter>,
+    ) -> Result<Parts, Memory>
+        requires { IfSome (option_copied reverse) (λ back. back.accounted ≡ nfa.now.accounted) }
+        ensures own { IfOk result (λ parts. parts.own ≡ pre.now) }
+        ensures backtrack { IfOk result (λ parts. MatchOption parts.backtrack (has_backtracker config.now ≡ false)
+            (λ b. (has_backtracker config.now ≡ true) × (b.nfa ≡ nfa.now) × (b.pre ≡ pre.now))) }
+        ensures onepass { IfOk result (λ parts. (h : Expression) → AreOf h info.now.properties → IsOnePassBeside config.now nfa.now h parts.onepass) }
+        ensures dfas { IfOk result (λ parts. AreDfasBeside config.now nfa.now (option_copied reverse.entry) parts.dfas) }
+    {
+        let own = shared(pre.as_ref())?;
+        let backtrack = backtracker(config, nfa, pre)?;
+        let onepass = OnePass::new(alloc, config, nfa, info)?;
+        // The largest comes last: no way out lets go of it.
+        let dfas = Dfas::new(alloc, config, nfa, reverse)?;
+        Ok(Parts {
+            own,
+            backtrack,
+            onepass,
+            dfas,
+        })
     }
 }
 

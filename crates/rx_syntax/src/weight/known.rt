@@ -56,7 +56,7 @@ impl KnownWeights {
         ensures { IfOk result (λ weight. weight ≡ set_weight key) }
     {
         let class = self.sets.scalars(key)?;
-        let weight = Weight::of(&scalar_class(self.alloc, class)?);
+        let weight = Weight::of_made(scalar_class(self.alloc, class)?);
         self.weights.push(KnownWeight { key, weight })?;
         Ok(weight)
     }

@@ -85,7 +85,10 @@ fn weigh_text(
     ensures { Weighs result (reads config.now (chars pattern.now)) }
 {
     let ast = read(alloc, pattern, config)?;
-    weigh(alloc, &ast, config, known)
+    let weighed = weigh(alloc, &ast, config, known);
+    // By a call (DECISIONS: large values are let go by name).
+    drop(ast);
+    weighed
 }
 
 /// Sums over patterns: half of their slots, and their states.

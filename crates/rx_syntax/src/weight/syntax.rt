@@ -56,7 +56,7 @@ fn weigh_character(alloc: Global, flags: Flags, c: char) -> Result<Weight, Memor
     ensures { IfOk result (λ w. w ≡ weight_of (character flags c)) }
 {
     let hir = character(alloc, flags, c)?;
-    Ok(Weight::of(&hir))
+    Ok(Weight::of_made(hir))
 }
 
 fn weigh_atom(
@@ -74,7 +74,7 @@ fn weigh_atom(
     }
     // There is no second definition of it (DECISIONS: the weight of an atom is that of its expression).
     let hir = atom(alloc, config, flags, piece, own, known.sets())?;
-    Ok(Weight::of(&hir))
+    Ok(Weight::of_made(hir))
 }
 
 /// The weight of one of these, the first preferred.
@@ -122,7 +122,7 @@ fn with_run(alloc: Global, before: Weight, flags: Flags, run: &[char]) -> Result
         return with_each(alloc, before, flags, run);
     }
     let hir = literal(alloc, run)?;
-    Ok(before.followed(Weight::of(&hir)))
+    Ok(before.followed(Weight::of_made(hir)))
 }
 
 fn with_each(alloc: Global, before: Weight, flags: Flags, run: &[char]) -> Result<Weight, Memory>
@@ -131,7 +131,7 @@ fn with_each(alloc: Global, before: Weight, flags: Flags, run: &[char]) -> Resul
     let mut row = before;
     for c in run {
         let hir = in_either_case(alloc, flags, *c)?;
-        row = row.followed(Weight::of(&hir));
+        row = row.followed(Weight::of_made(hir));
     }
     Ok(row)
 }

@@ -1,4 +1,4 @@
-use Rattle.std.proofs.Common.{◌≡◌, ◌-◌, ◌<◌, sym, ◌∙◌, ap, subst, arith}
+use Rattle.std.proofs.Common.{◌≡◌, ◌-◌, ◌<◌, length, sym, ◌∙◌, ap, subst, arith}
 use Rattle.std.specs.Prelude.{Some, slice_index}
 use Rattle.std.proofs.lemmas.List.Elements.{All-from_get_or}
 use Rattle.std.proofs.lemmas.Option.{slice_get-get_or}
@@ -248,3 +248,149 @@ returns-then-is_dead-2-clause-most g c =
     let left = goes-left d v (omega arith) spanned (g.A.Automaton.holds c.args.dfa.now c.bytes.cache)
     c.bytes.at c.bytes.state c.bytes.best c.bytes.invariant.going in
     omega (arith, taken, ticks, left)
+
+pub bounds-haystack-before : goal.bounds-haystack-before
+bounds-haystack-before g c =
+    let len = ap length c.haystack-haystack.ensures.value in
+    let spanned = c.haystack-haystack.ensures.spanned.end in
+    let high = c.bytes.invariant.high in
+    let more = c.bytes-test.true in
+    omega arith
+
+pub is_permitted_at-may-requires : goal.is_permitted_at-may-requires
+is_permitted_at-may-requires g c =
+    let len = ap length c.haystack-haystack.ensures.value in
+    let spanned = c.haystack-haystack.ensures.spanned.end in
+    let high = c.bytes.invariant.high in
+    let more = c.bytes-test.true in
+    omega arith
+
+pub end-at-requires : goal.end-at-requires
+end-at-requires g c = tt
+
+pub haystack-haystack-requires : goal.haystack-haystack-requires
+haystack-haystack-requires g c = tt
+
+pub retry_of-requires : goal.retry_of-requires
+retry_of-requires g c = tt
+
+pub retry_of_step-requires : goal.retry_of_step-requires
+retry_of_step-requires g c = tt
+
+pub bytes-smaller : goal.bytes-smaller
+bytes-smaller g c =
+    let more = c.bytes-test.true in
+    omega arith
+
+pub bytes-smaller-then-not-is_special : goal.bytes-smaller-then-not-is_special
+bytes-smaller-then-not-is_special g c =
+    let more = c.bytes-test.true in
+    omega arith
+
+pub overflow_sub-before : goal.overflow_sub-before
+overflow_sub-before g c = omega (arith, c.bytes-test.true)
+
+pub is_dead-requires : goal.is_dead-requires
+is_dead-requires g c =
+    let v = c.args.input.now in
+    (first_key (g.A.Automaton.dfa c.args.dfa.now) v.anchor (byte_after v.haystack v.end), c.in-Ok.ensures.start)
+
+pub next_state-requires-clause-fits : goal.next_state-requires-clause-fits
+next_state-requires-clause-fits g c = c.bytes.invariant.fits
+
+pub next_state-requires-clause-held : goal.next_state-requires-clause-held
+next_state-requires-clause-held g c = (key_behind (g.A.Automaton.dfa c.args.dfa.now) c.args.input.now c.bytes.at, c.bytes.invariant.going.held)
+
+pub start_reverse-requires : goal.start_reverse-requires
+start_reverse-requires g c = c.requires.fits
+
+pub returns-clause-err : goal.returns-clause-err
+returns-clause-err g c = tt
+
+pub returns-then-is_dead-clause-err : goal.returns-then-is_dead-clause-err
+returns-then-is_dead-clause-err g c = tt
+
+pub returns-then-is_dead-2-clause-err : goal.returns-then-is_dead-2-clause-err
+returns-then-is_dead-2-clause-err g c = tt
+
+pub returns-in-Err-clause-scanned : goal.returns-in-Err-clause-scanned
+returns-in-Err-clause-scanned g c = tt
+
+pub returns-in-Err-next_state-clause-scanned : goal.returns-in-Err-next_state-clause-scanned
+returns-in-Err-next_state-clause-scanned g c = tt
+
+pub returns-clause-fits : goal.returns-clause-fits
+returns-clause-fits g c = c.bytes.invariant.fits
+
+pub returns-clause-sound : goal.returns-clause-sound
+returns-clause-sound g c = c.is_utf8-utf8.ensures.sound
+
+pub returns-in-Err-clause-fits : goal.returns-in-Err-clause-fits
+returns-in-Err-clause-fits g c = c.in-Err.ensures.fits
+
+pub returns-in-Err-clause-sound : goal.returns-in-Err-clause-sound
+returns-in-Err-clause-sound g c = c.is_utf8-utf8.ensures.sound
+
+pub returns-in-Err-next_state-clause-fits : goal.returns-in-Err-next_state-clause-fits
+returns-in-Err-next_state-clause-fits g c = c.in-Err-next_state.ensures.fits
+
+pub returns-in-Err-next_state-clause-sound : goal.returns-in-Err-next_state-clause-sound
+returns-in-Err-next_state-clause-sound g c = c.is_utf8-utf8.ensures.sound
+
+pub returns-then-is_dead-clause-fits : goal.returns-then-is_dead-clause-fits
+returns-then-is_dead-clause-fits g c = c.in-Ok.ensures.fits
+
+pub returns-then-is_dead-clause-sound : goal.returns-then-is_dead-clause-sound
+returns-then-is_dead-clause-sound g c = c.is_utf8-utf8.ensures.sound
+
+pub returns-then-is_dead-2-clause-fits : goal.returns-then-is_dead-2-clause-fits
+returns-then-is_dead-2-clause-fits g c = c.in-Ok-next_state.ensures.fits
+
+pub returns-then-is_dead-2-clause-sound : goal.returns-then-is_dead-2-clause-sound
+returns-then-is_dead-2-clause-sound g c = c.is_utf8-utf8.ensures.sound
+
+pub returns-in-Err-clause-few : goal.returns-in-Err-clause-few
+returns-in-Err-clause-few g c = omega arith
+
+pub returns-in-Err-clause-most : goal.returns-in-Err-clause-most
+returns-in-Err-clause-most g c = omega arith
+
+pub returns-then-is_dead-clause-few : goal.returns-then-is_dead-clause-few
+returns-then-is_dead-clause-few g c = omega arith
+
+pub returns-then-is_dead-clause-most : goal.returns-then-is_dead-clause-most
+returns-then-is_dead-clause-most g c = omega arith
+
+pub returns-clause-few : goal.returns-clause-few
+returns-clause-few g c =
+    let taken = c.bytes.invariant.steps in
+    let low = c.bytes.invariant.low in
+    omega arith
+
+pub returns-in-Err-next_state-clause-few : goal.returns-in-Err-next_state-clause-few
+returns-in-Err-next_state-clause-few g c =
+    let taken = c.bytes.invariant.steps in
+    let ticks = c.next_state.ensures.ticks in
+    let more = c.bytes-test.true in
+    let high = c.bytes.invariant.high in
+    omega arith
+
+pub returns-then-is_dead-2-clause-few : goal.returns-then-is_dead-2-clause-few
+returns-then-is_dead-2-clause-few g c =
+    let taken = c.bytes.invariant.steps in
+    let ticks = c.next_state.ensures.ticks in
+    let more = c.bytes-test.true in
+    let high = c.bytes.invariant.high in
+    omega arith
+
+pub returns-clause-most : goal.returns-clause-most
+returns-clause-most g c =
+    let d = g.A.Automaton.dfa c.args.dfa.now in
+    let v = c.args.input.now in
+    let low = c.requires.low in
+    let high = c.requires.high in
+    let spanned = c.haystack-haystack.ensures.spanned.end in
+    let taken = c.bytes.invariant.steps in
+    let left = goes-left d v (omega arith) spanned (g.A.Automaton.holds c.args.dfa.now c.bytes.cache)
+    c.bytes.at c.bytes.state c.bytes.best c.bytes.invariant.going in
+    omega (arith, taken, left)

@@ -494,3 +494,102 @@ returns-else-start-floor-clause-err g c =
     IfErr-weaker c.end_at_start.result _ (LimitedFails d v least gives_up wants)
     (λ e h. end-refuses d c.in-Ok.ensures.sound v in_order spanned c.requires.anchored least floor c.args.steps.now c.end_at_start.new.steps low first few held c.in-Alive.state c.in-Alive.best gives_up wants going e h)
     c.end_at_start.ensures.err
+
+pub end-requires : goal.end-requires
+end-requires g c = tt
+
+pub haystack-haystack-requires : goal.haystack-haystack-requires
+haystack-haystack-requires g c = tt
+
+pub is_done-requires : goal.is_done-requires
+is_done-requires g c = tt
+
+pub start-start-requires : goal.start-start-requires
+start-start-requires g c = tt
+
+pub end_at_start-requires-clause-fits : goal.end_at_start-requires-clause-fits
+end_at_start-requires-clause-fits g c = c.in-Ok.ensures.fits
+
+pub end_at_start-requires-clause-reverse : goal.end_at_start-requires-clause-reverse
+end_at_start-requires-clause-reverse g c = c.requires.reverse
+
+pub go_back-requires-clause-fits : goal.go_back-requires-clause-fits
+go_back-requires-clause-fits g c = c.requires.fits
+
+pub go_back-requires-clause-reverse : goal.go_back-requires-clause-reverse
+go_back-requires-clause-reverse g c = c.requires.reverse
+
+pub overflow_sub-result : goal.overflow_sub-result
+overflow_sub-result g c = omega (arith, c.if-start-floor.true)
+
+pub returns-else-start-floor-clause-fits : goal.returns-else-start-floor-clause-fits
+returns-else-start-floor-clause-fits g c = c.end_at_start.ensures.fits
+
+pub returns-in-Err-clause-answer : goal.returns-in-Err-clause-answer
+returns-in-Err-clause-answer g c = tt
+
+pub returns-in-Err-clause-lies : goal.returns-in-Err-clause-lies
+returns-in-Err-clause-lies g c = tt
+
+pub returns-in-Err-clause-near : goal.returns-in-Err-clause-near
+returns-in-Err-clause-near g c = tt
+
+pub returns-in-Err-clause-ticks : goal.returns-in-Err-clause-ticks
+returns-in-Err-clause-ticks g c = tt
+
+pub returns-in-Err-clause-within : goal.returns-in-Err-clause-within
+returns-in-Err-clause-within g c = tt
+
+pub returns-in-Over-clause-err : goal.returns-in-Over-clause-err
+returns-in-Over-clause-err g c = tt
+
+pub returns-then-is_done-clause-err : goal.returns-then-is_done-clause-err
+returns-then-is_done-clause-err g c = tt
+
+pub returns-then-is_done-clause-near : goal.returns-then-is_done-clause-near
+returns-then-is_done-clause-near g c = tt
+
+pub returns-then-start-floor-clause-answer : goal.returns-then-start-floor-clause-answer
+returns-then-start-floor-clause-answer g c = tt
+
+pub returns-then-start-floor-clause-lies : goal.returns-then-start-floor-clause-lies
+returns-then-start-floor-clause-lies g c = tt
+
+pub returns-then-start-floor-clause-near : goal.returns-then-start-floor-clause-near
+returns-then-start-floor-clause-near g c = tt
+
+pub returns-then-start-floor-clause-ticks : goal.returns-then-start-floor-clause-ticks
+returns-then-start-floor-clause-ticks g c = tt
+
+pub returns-then-start-floor-clause-within : goal.returns-then-start-floor-clause-within
+returns-then-start-floor-clause-within g c = tt
+
+pub returns-in-Err-clause-fits : goal.returns-in-Err-clause-fits
+returns-in-Err-clause-fits g c = c.in-Err.ensures.fits
+
+pub returns-in-Err-clause-most : goal.returns-in-Err-clause-most
+returns-in-Err-clause-most g c = c.in-Err.ensures.most
+
+pub returns-in-Over-clause-fits : goal.returns-in-Over-clause-fits
+returns-in-Over-clause-fits g c = c.in-Ok.ensures.fits
+
+pub returns-in-Over-clause-most : goal.returns-in-Over-clause-most
+returns-in-Over-clause-most g c = c.in-Ok.ensures.most
+
+pub returns-then-start-floor-clause-fits : goal.returns-then-start-floor-clause-fits
+returns-then-start-floor-clause-fits g c = c.in-Ok.ensures.fits
+
+pub returns-then-start-floor-clause-most : goal.returns-then-start-floor-clause-most
+returns-then-start-floor-clause-most g c = c.in-Ok.ensures.most
+
+pub returns-then-is_done-clause-fits : goal.returns-then-is_done-clause-fits
+returns-then-is_done-clause-fits g c = c.requires.fits
+
+pub returns-then-is_done-clause-lies : goal.returns-then-is_done-clause-lies
+returns-then-is_done-clause-lies g c = (tt, tt)
+
+pub returns-then-is_done-clause-few : goal.returns-then-is_done-clause-few
+returns-then-is_done-clause-few g c = omega arith
+
+pub returns-then-is_done-clause-most : goal.returns-then-is_done-clause-most
+returns-then-is_done-clause-most g c = omega arith

@@ -1,4 +1,4 @@
-use Rattle.std.proofs.Common.{◌≡◌, ◌-◌, ◌<◌, refl, sym, ◌∙◌, ap, subst, arith}
+use Rattle.std.proofs.Common.{◌≡◌, ◌-◌, ◌<◌, length, refl, sym, ◌∙◌, ap, subst, arith}
 use Rattle.std.specs.Prelude.{◌&&◌, Some, is_some, slice_get, slice_index}
 use Rattle.std.proofs.lemmas.List.Elements.{All-from_get_or}
 use Rattle.std.proofs.lemmas.Option.{slice_get-get_or}
@@ -331,3 +331,162 @@ returns-clause-most g c =
     (g.A.Automaton.holds c.args.dfa.now c.bytes.cache) (g.A.Automaton.holds c.args.dfa.now c.bytes.cache)
     c.bytes.at c.bytes.state c.bytes.best c.bytes.invariant.going in
     omega (arith, taken, ticks, left)
+
+pub bounds-haystack-at : goal.bounds-haystack-at
+bounds-haystack-at g c =
+    let len = ap length c.haystack-haystack.ensures.value in
+    let last = c.end-end.ensures.value in
+    let spanned = c.haystack-haystack.ensures.spanned.end in
+    omega arith
+
+pub is_permitted_at-may-requires : goal.is_permitted_at-may-requires
+is_permitted_at-may-requires g c =
+    let len = ap length c.haystack-haystack.ensures.value in
+    let last = c.end-end.ensures.value in
+    let spanned = c.haystack-haystack.ensures.spanned.end in
+    let high = c.bytes.invariant.high in
+    omega arith
+
+pub is_permitted_at-may_end-requires : goal.is_permitted_at-may_end-requires
+is_permitted_at-may_end-requires g c =
+    let len = ap length c.haystack-haystack.ensures.value in
+    let last = c.end-end.ensures.value in
+    let spanned = c.haystack-haystack.ensures.spanned.end in
+    omega arith
+
+pub byte_after-byte-requires : goal.byte_after-byte-requires
+byte_after-byte-requires g c = tt
+
+pub end-end-requires : goal.end-end-requires
+end-end-requires g c = tt
+
+pub get_earliest-requires : goal.get_earliest-requires
+get_earliest-requires g c = tt
+
+pub haystack-haystack-requires : goal.haystack-haystack-requires
+haystack-haystack-requires g c = tt
+
+pub is_enough-requires : goal.is_enough-requires
+is_enough-requires g c = tt
+
+pub retry_of-requires : goal.retry_of-requires
+retry_of-requires g c = tt
+
+pub retry_of_step-requires : goal.retry_of_step-requires
+retry_of_step-requires g c = tt
+
+pub start-at-requires : goal.start-at-requires
+start-at-requires g c = tt
+
+pub retry_of_step-requires-in-Err-last_state : goal.retry_of_step-requires-in-Err-last_state
+retry_of_step-requires-in-Err-last_state g c = tt
+
+pub bytes-smaller : goal.bytes-smaller
+bytes-smaller g c =
+    let last = c.end-end.ensures.value in
+    let less = c.bytes-test.true in
+    omega arith
+
+pub bytes-smaller-then-not-is_special : goal.bytes-smaller-then-not-is_special
+bytes-smaller-then-not-is_special g c =
+    let last = c.end-end.ensures.value in
+    let less = c.bytes-test.true in
+    omega arith
+
+pub is_dead-requires : goal.is_dead-requires
+is_dead-requires g c =
+    let v = c.args.input.now in
+    (first_key (g.A.Automaton.dfa c.args.dfa.now) v.anchor (byte_before v.haystack v.start), c.in-Ok.ensures.start)
+
+pub last_state-requires-clause-fits : goal.last_state-requires-clause-fits
+last_state-requires-clause-fits g c = c.bytes.invariant.fits
+
+pub next_state-requires-clause-fits : goal.next_state-requires-clause-fits
+next_state-requires-clause-fits g c = c.bytes.invariant.fits
+
+pub next_state-requires-clause-held : goal.next_state-requires-clause-held
+next_state-requires-clause-held g c = (key_ahead (g.A.Automaton.dfa c.args.dfa.now) c.args.input.now c.bytes.at, c.bytes.invariant.going.held)
+
+pub start_forward-requires : goal.start_forward-requires
+start_forward-requires g c = c.requires.fits
+
+pub returns-clause-err : goal.returns-clause-err
+returns-clause-err g c = tt
+
+pub returns-then-is_dead-clause-err : goal.returns-then-is_dead-clause-err
+returns-then-is_dead-clause-err g c = tt
+
+pub returns-then-is_dead-2-clause-err : goal.returns-then-is_dead-2-clause-err
+returns-then-is_dead-2-clause-err g c = tt
+
+pub returns-then-is_enough-clause-err : goal.returns-then-is_enough-clause-err
+returns-then-is_enough-clause-err g c = tt
+
+pub returns-in-Err-clause-stopped : goal.returns-in-Err-clause-stopped
+returns-in-Err-clause-stopped g c = tt
+
+pub returns-in-Err-last_state-clause-stopped : goal.returns-in-Err-last_state-clause-stopped
+returns-in-Err-last_state-clause-stopped g c = tt
+
+pub returns-in-Err-next_state-clause-stopped : goal.returns-in-Err-next_state-clause-stopped
+returns-in-Err-next_state-clause-stopped g c = tt
+
+pub returns-clause-sound : goal.returns-clause-sound
+returns-clause-sound g c = c.is_utf8-utf8.ensures.sound
+
+pub returns-in-Err-clause-sound : goal.returns-in-Err-clause-sound
+returns-in-Err-clause-sound g c = c.is_utf8-utf8.ensures.sound
+
+pub returns-in-Err-last_state-clause-sound : goal.returns-in-Err-last_state-clause-sound
+returns-in-Err-last_state-clause-sound g c = c.is_utf8-utf8.ensures.sound
+
+pub returns-in-Err-next_state-clause-sound : goal.returns-in-Err-next_state-clause-sound
+returns-in-Err-next_state-clause-sound g c = c.is_utf8-utf8.ensures.sound
+
+pub returns-then-is_dead-clause-sound : goal.returns-then-is_dead-clause-sound
+returns-then-is_dead-clause-sound g c = c.is_utf8-utf8.ensures.sound
+
+pub returns-then-is_dead-2-clause-sound : goal.returns-then-is_dead-2-clause-sound
+returns-then-is_dead-2-clause-sound g c = c.is_utf8-utf8.ensures.sound
+
+pub returns-then-is_enough-clause-sound : goal.returns-then-is_enough-clause-sound
+returns-then-is_enough-clause-sound g c = c.is_utf8-utf8.ensures.sound
+
+pub returns-clause-fits : goal.returns-clause-fits
+returns-clause-fits g c = c.in-Ok-last_state.ensures.fits
+
+pub returns-in-Err-clause-fits : goal.returns-in-Err-clause-fits
+returns-in-Err-clause-fits g c = c.in-Err.ensures.fits
+
+pub returns-in-Err-last_state-clause-fits : goal.returns-in-Err-last_state-clause-fits
+returns-in-Err-last_state-clause-fits g c = c.in-Err-last_state.ensures.fits
+
+pub returns-in-Err-next_state-clause-fits : goal.returns-in-Err-next_state-clause-fits
+returns-in-Err-next_state-clause-fits g c = c.in-Err-next_state.ensures.fits
+
+pub returns-then-is_dead-clause-fits : goal.returns-then-is_dead-clause-fits
+returns-then-is_dead-clause-fits g c = c.in-Ok.ensures.fits
+
+pub returns-then-is_dead-2-clause-fits : goal.returns-then-is_dead-2-clause-fits
+returns-then-is_dead-2-clause-fits g c = c.in-Ok-next_state.ensures.fits
+
+pub returns-then-is_enough-clause-fits : goal.returns-then-is_enough-clause-fits
+returns-then-is_enough-clause-fits g c = c.in-Ok-next_state.ensures.fits
+
+pub returns-in-Err-clause-most : goal.returns-in-Err-clause-most
+returns-in-Err-clause-most g c = omega arith
+
+pub returns-then-is_dead-clause-most : goal.returns-then-is_dead-clause-most
+returns-then-is_dead-clause-most g c = omega arith
+
+pub overflow_add-at : goal.overflow_add-at
+overflow_add-at g c =
+    let less = c.bytes-test.true in
+    let fits = c.end-end.type_inv in
+    omega arith
+
+pub overflow_add-at-in-bytes : goal.overflow_add-at-in-bytes
+overflow_add-at-in-bytes g c =
+    let less = c.bytes-test.true in
+    let fits = c.end-end.type_inv in
+    omega arith

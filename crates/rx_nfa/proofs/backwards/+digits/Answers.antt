@@ -11,6 +11,7 @@ use Rattle.rx_nfa.proofs.lemmas.parts.DigitsBuilt.{digits-next, states-digits-fi
 use Rattle.rx_nfa.proofs.lemmas.parts.AddsLemmas.{Adds-built}
 use Rattle.rx_nfa.proofs.lemmas.parts.LastLemmas.{pieces-fit, lasts-fit, before-fits}
 use Rattle.rx_nfa.proofs.lemmas.parts.ResultLemmas.{IfOk-both, OnOk-of}
+use Rattle.rx_nfa.proofs.lemmas.parts.UnmadeLemmas.{unmade}
 use Rattle.rx_nfa.proofs.backwards.+digits.Goals as goal
 
 -- One digit.
@@ -260,3 +261,81 @@ push_last-returns-clause-count t c =
     let grown = ap (λ (d : Draft). length d.states) is in
     let one = pushed-length c.join.new.builder (ByteRange (0x80 + c.args.last.0) (0x80 + c.args.last.1) c.in_ok-rest.rest) in
     omega arith)
+
+pub push_digits-returns-in_err-pieces-clause-adds : goal.push_digits-returns-in_err-pieces-clause-adds
+push_digits-returns-in_err-pieces-clause-adds t c = unmade _ c.from_residual.result c.from_residual.ensures.0
+
+pub push_digits-returns-in_err-pieces-clause-inside : goal.push_digits-returns-in_err-pieces-clause-inside
+push_digits-returns-in_err-pieces-clause-inside t c = unmade _ c.from_residual.result c.from_residual.ensures.0
+
+pub push_digits-returns-in_err-pieces-clause-count : goal.push_digits-returns-in_err-pieces-clause-count
+push_digits-returns-in_err-pieces-clause-count t c = unmade _ c.from_residual.result c.from_residual.ensures.0
+
+pub push_digits-returns-in_err-pieces-clause-ways : goal.push_digits-returns-in_err-pieces-clause-ways
+push_digits-returns-in_err-pieces-clause-ways t c = unmade _ c.from_residual.result c.from_residual.ensures.0
+
+pub push_groups-returns-in_err-lasts-clause-adds : goal.push_groups-returns-in_err-lasts-clause-adds
+push_groups-returns-in_err-lasts-clause-adds t c = unmade _ c.from_residual.result c.from_residual.ensures.0
+
+pub push_groups-returns-in_err-lasts-clause-inside : goal.push_groups-returns-in_err-lasts-clause-inside
+push_groups-returns-in_err-lasts-clause-inside t c = unmade _ c.from_residual.result c.from_residual.ensures.0
+
+pub push_groups-returns-in_err-lasts-clause-count : goal.push_groups-returns-in_err-lasts-clause-count
+push_groups-returns-in_err-lasts-clause-count t c = unmade _ c.from_residual.result c.from_residual.ensures.0
+
+pub push_groups-returns-in_err-lasts-clause-ways : goal.push_groups-returns-in_err-lasts-clause-ways
+push_groups-returns-in_err-lasts-clause-ways t c = unmade _ c.from_residual.result c.from_residual.ensures.0
+
+pub push_groups-returns-in_err-before-clause-adds : goal.push_groups-returns-in_err-before-clause-adds
+push_groups-returns-in_err-before-clause-adds t c = unmade _ c.from_residual-in_err-before.result c.from_residual-in_err-before.ensures.0
+
+pub push_groups-returns-in_err-before-clause-inside : goal.push_groups-returns-in_err-before-clause-inside
+push_groups-returns-in_err-before-clause-inside t c = unmade _ c.from_residual-in_err-before.result c.from_residual-in_err-before.ensures.0
+
+pub push_groups-returns-in_err-before-clause-count : goal.push_groups-returns-in_err-before-clause-count
+push_groups-returns-in_err-before-clause-count t c = unmade _ c.from_residual-in_err-before.result c.from_residual-in_err-before.ensures.0
+
+pub push_groups-returns-in_err-before-clause-ways : goal.push_groups-returns-in_err-before-clause-ways
+push_groups-returns-in_err-before-clause-ways t c = unmade _ c.from_residual-in_err-before.result c.from_residual-in_err-before.ensures.0
+
+pub push_groups-returns-in_err-start-clause-adds : goal.push_groups-returns-in_err-start-clause-adds
+push_groups-returns-in_err-start-clause-adds t c = unmade _ c.from_residual-in_err-start.result c.from_residual-in_err-start.ensures.0
+
+pub push_groups-returns-in_err-start-clause-inside : goal.push_groups-returns-in_err-start-clause-inside
+push_groups-returns-in_err-start-clause-inside t c = unmade _ c.from_residual-in_err-start.result c.from_residual-in_err-start.ensures.0
+
+pub push_groups-returns-in_err-start-clause-count : goal.push_groups-returns-in_err-start-clause-count
+push_groups-returns-in_err-start-clause-count t c = unmade _ c.from_residual-in_err-start.result c.from_residual-in_err-start.ensures.0
+
+pub push_groups-returns-in_err-start-clause-ways : goal.push_groups-returns-in_err-start-clause-ways
+push_groups-returns-in_err-start-clause-ways t c = unmade _ c.from_residual-in_err-start.result c.from_residual-in_err-start.ensures.0
+
+pub push_groups-returns-in_err-push-clause-adds : goal.push_groups-returns-in_err-push-clause-adds
+push_groups-returns-in_err-push-clause-adds t c = unmade _ c.from_residual-in_err-push.result c.from_residual-in_err-push.ensures.0
+
+pub push_groups-returns-in_err-push-clause-inside : goal.push_groups-returns-in_err-push-clause-inside
+push_groups-returns-in_err-push-clause-inside t c = unmade _ c.from_residual-in_err-push.result c.from_residual-in_err-push.ensures.0
+
+pub push_groups-returns-in_err-push-clause-count : goal.push_groups-returns-in_err-push-clause-count
+push_groups-returns-in_err-push-clause-count t c = unmade _ c.from_residual-in_err-push.result c.from_residual-in_err-push.ensures.0
+
+pub push_groups-returns-in_err-push-clause-ways : goal.push_groups-returns-in_err-push-clause-ways
+push_groups-returns-in_err-push-clause-ways t c = unmade _ c.from_residual-in_err-push.result c.from_residual-in_err-push.ensures.0
+
+pub push_last-returns-in_err-push_digits-clause-built : goal.push_last-returns-in_err-push_digits-clause-built
+push_last-returns-in_err-push_digits-clause-built t c = unmade _ c.from_residual.result c.from_residual.ensures.0
+
+pub push_last-returns-in_err-push_digits-clause-inside : goal.push_last-returns-in_err-push_digits-clause-inside
+push_last-returns-in_err-push_digits-clause-inside t c = unmade _ c.from_residual.result c.from_residual.ensures.0
+
+pub push_last-returns-in_err-push_digits-clause-count : goal.push_last-returns-in_err-push_digits-clause-count
+push_last-returns-in_err-push_digits-clause-count t c = unmade _ c.from_residual.result c.from_residual.ensures.0
+
+pub push_last-returns-in_err-rest-clause-built : goal.push_last-returns-in_err-rest-clause-built
+push_last-returns-in_err-rest-clause-built t c = unmade _ c.from_residual-in_err-rest.result c.from_residual-in_err-rest.ensures.0
+
+pub push_last-returns-in_err-rest-clause-inside : goal.push_last-returns-in_err-rest-clause-inside
+push_last-returns-in_err-rest-clause-inside t c = unmade _ c.from_residual-in_err-rest.result c.from_residual-in_err-rest.ensures.0
+
+pub push_last-returns-in_err-rest-clause-count : goal.push_last-returns-in_err-rest-clause-count
+push_last-returns-in_err-rest-clause-count t c = unmade _ c.from_residual-in_err-rest.result c.from_residual-in_err-rest.ensures.0

@@ -6,6 +6,7 @@ use Rattle.rx_nfa.proofs.lemmas.classes.RowLemmas.{AddsReaders-trans, Ascends-mo
 use Rattle.rx_nfa.proofs.lemmas.classes.BlockLemmas.{IsReady-one, IsRow-map, row-below}
 use Rattle.rx_nfa.proofs.lemmas.classes.RangesLemmas.{AreScalarRanges-rise}
 use Rattle.rx_nfa.proofs.lemmas.classes.ClassLemmas.{IsClass-from}
+use Rattle.rx_nfa.proofs.lemmas.parts.UnmadeLemmas.{unmade}
 use Rattle.rx_nfa.proofs.class.compile_class.Goals as goal
 
 pub add_band-requires-clause-rises : goal.add_band-requires-clause-rises
@@ -196,3 +197,171 @@ returns-clause-grows c =
     (AddsReaders-trans _ _ _ c.in_ok-add_band-3.ensures.grows
     (AddsReaders-trans _ _ _ c.in_ok-add_band-4.ensures.grows
     (AddsReaders-trans _ _ _ c.in_ok-add_band-5.ensures.grows c.in_ok-id.ensures.grows))))
+
+pub add_band-requires-clause-ordered : goal.add_band-requires-clause-ordered
+add_band-requires-clause-ordered c = (omega arith, omega arith)
+
+pub add_band-requires-clause-deep : goal.add_band-requires-clause-deep
+add_band-requires-clause-deep c = omega arith
+
+pub add_band-requires-clause-aligned : goal.add_band-requires-clause-aligned
+unfolding size_of_block
+add_band-requires-clause-aligned c = refl
+
+pub add_band-requires-clause-bytes : goal.add_band-requires-clause-bytes
+add_band-requires-clause-bytes c = omega arith
+
+pub add_band-requires-clause-before : goal.add_band-requires-clause-before
+add_band-requires-clause-before c = rw c.new-transitions.ensures.items (omega arith)
+
+pub add_band-requires-clause-some : goal.add_band-requires-clause-some
+add_band-requires-clause-some c = rw (c.in_ok-push.ensures.items, c.new-whole.ensures.items) (omega arith)
+
+pub add_band-requires-2-clause-ordered : goal.add_band-requires-2-clause-ordered
+add_band-requires-2-clause-ordered c = (omega arith, omega arith)
+
+pub add_band-requires-2-clause-deep : goal.add_band-requires-2-clause-deep
+add_band-requires-2-clause-deep c = omega arith
+
+pub add_band-requires-2-clause-bytes : goal.add_band-requires-2-clause-bytes
+add_band-requires-2-clause-bytes c = omega arith
+
+pub add_band-requires-2-clause-some : goal.add_band-requires-2-clause-some
+add_band-requires-2-clause-some c = c.in_ok-add_band.ensures.some
+
+pub add_band-requires-3-clause-ordered : goal.add_band-requires-3-clause-ordered
+add_band-requires-3-clause-ordered c = (omega arith, omega arith)
+
+pub add_band-requires-3-clause-deep : goal.add_band-requires-3-clause-deep
+add_band-requires-3-clause-deep c = omega arith
+
+pub add_band-requires-3-clause-aligned : goal.add_band-requires-3-clause-aligned
+unfolding size_of_block
+add_band-requires-3-clause-aligned c = refl
+
+pub add_band-requires-3-clause-bytes : goal.add_band-requires-3-clause-bytes
+add_band-requires-3-clause-bytes c = omega arith
+
+pub add_band-requires-3-clause-before : goal.add_band-requires-3-clause-before
+add_band-requires-3-clause-before c = c.in_ok-add_band-2.ensures.ascends
+
+pub add_band-requires-3-clause-some : goal.add_band-requires-3-clause-some
+add_band-requires-3-clause-some c = c.in_ok-add_band-2.ensures.some
+
+pub add_band-requires-4-clause-ordered : goal.add_band-requires-4-clause-ordered
+add_band-requires-4-clause-ordered c = (omega arith, omega arith)
+
+pub add_band-requires-4-clause-deep : goal.add_band-requires-4-clause-deep
+add_band-requires-4-clause-deep c = omega arith
+
+pub add_band-requires-4-clause-bytes : goal.add_band-requires-4-clause-bytes
+add_band-requires-4-clause-bytes c = omega arith
+
+pub add_band-requires-4-clause-before : goal.add_band-requires-4-clause-before
+add_band-requires-4-clause-before c = c.in_ok-add_band-3.ensures.ascends
+
+pub add_band-requires-4-clause-some : goal.add_band-requires-4-clause-some
+add_band-requires-4-clause-some c = c.in_ok-add_band-3.ensures.some
+
+pub add_band-requires-5-clause-ordered : goal.add_band-requires-5-clause-ordered
+add_band-requires-5-clause-ordered c = (omega arith, omega arith)
+
+pub add_band-requires-5-clause-deep : goal.add_band-requires-5-clause-deep
+add_band-requires-5-clause-deep c = omega arith
+
+pub add_band-requires-5-clause-aligned : goal.add_band-requires-5-clause-aligned
+unfolding size_of_block
+add_band-requires-5-clause-aligned c = refl
+
+pub add_band-requires-5-clause-bytes : goal.add_band-requires-5-clause-bytes
+add_band-requires-5-clause-bytes c = omega arith
+
+pub add_band-requires-5-clause-before : goal.add_band-requires-5-clause-before
+add_band-requires-5-clause-before c = c.in_ok-add_band-4.ensures.ascends
+
+pub add_band-requires-5-clause-some : goal.add_band-requires-5-clause-some
+add_band-requires-5-clause-some c = c.in_ok-add_band-4.ensures.some
+
+pub returns-in_err-push-clause-built : goal.returns-in_err-push-clause-built
+returns-in_err-push-clause-built c = unmade _ c.from_residual.result c.from_residual.ensures.0
+
+pub returns-in_err-push-clause-grows : goal.returns-in_err-push-clause-grows
+returns-in_err-push-clause-grows c = unmade _ c.from_residual.result c.from_residual.ensures.0
+
+pub returns-in_err-push-clause-closed : goal.returns-in_err-push-clause-closed
+returns-in_err-push-clause-closed c = unmade _ c.from_residual.result c.from_residual.ensures.0
+
+pub returns-in_err-push-clause-count : goal.returns-in_err-push-clause-count
+returns-in_err-push-clause-count c = unmade _ c.from_residual.result c.from_residual.ensures.0
+
+pub returns-in_err-add_band-clause-built : goal.returns-in_err-add_band-clause-built
+returns-in_err-add_band-clause-built c = unmade _ c.from_residual-in_err-add_band.result c.from_residual-in_err-add_band.ensures.0
+
+pub returns-in_err-add_band-clause-grows : goal.returns-in_err-add_band-clause-grows
+returns-in_err-add_band-clause-grows c = unmade _ c.from_residual-in_err-add_band.result c.from_residual-in_err-add_band.ensures.0
+
+pub returns-in_err-add_band-clause-closed : goal.returns-in_err-add_band-clause-closed
+returns-in_err-add_band-clause-closed c = unmade _ c.from_residual-in_err-add_band.result c.from_residual-in_err-add_band.ensures.0
+
+pub returns-in_err-add_band-clause-count : goal.returns-in_err-add_band-clause-count
+returns-in_err-add_band-clause-count c = unmade _ c.from_residual-in_err-add_band.result c.from_residual-in_err-add_band.ensures.0
+
+pub returns-in_err-add_band-2-clause-built : goal.returns-in_err-add_band-2-clause-built
+returns-in_err-add_band-2-clause-built c = unmade _ c.from_residual-in_err-add_band-2.result c.from_residual-in_err-add_band-2.ensures.0
+
+pub returns-in_err-add_band-2-clause-grows : goal.returns-in_err-add_band-2-clause-grows
+returns-in_err-add_band-2-clause-grows c = unmade _ c.from_residual-in_err-add_band-2.result c.from_residual-in_err-add_band-2.ensures.0
+
+pub returns-in_err-add_band-2-clause-closed : goal.returns-in_err-add_band-2-clause-closed
+returns-in_err-add_band-2-clause-closed c = unmade _ c.from_residual-in_err-add_band-2.result c.from_residual-in_err-add_band-2.ensures.0
+
+pub returns-in_err-add_band-2-clause-count : goal.returns-in_err-add_band-2-clause-count
+returns-in_err-add_band-2-clause-count c = unmade _ c.from_residual-in_err-add_band-2.result c.from_residual-in_err-add_band-2.ensures.0
+
+pub returns-in_err-add_band-3-clause-built : goal.returns-in_err-add_band-3-clause-built
+returns-in_err-add_band-3-clause-built c = unmade _ c.from_residual-in_err-add_band-3.result c.from_residual-in_err-add_band-3.ensures.0
+
+pub returns-in_err-add_band-3-clause-grows : goal.returns-in_err-add_band-3-clause-grows
+returns-in_err-add_band-3-clause-grows c = unmade _ c.from_residual-in_err-add_band-3.result c.from_residual-in_err-add_band-3.ensures.0
+
+pub returns-in_err-add_band-3-clause-closed : goal.returns-in_err-add_band-3-clause-closed
+returns-in_err-add_band-3-clause-closed c = unmade _ c.from_residual-in_err-add_band-3.result c.from_residual-in_err-add_band-3.ensures.0
+
+pub returns-in_err-add_band-3-clause-count : goal.returns-in_err-add_band-3-clause-count
+returns-in_err-add_band-3-clause-count c = unmade _ c.from_residual-in_err-add_band-3.result c.from_residual-in_err-add_band-3.ensures.0
+
+pub returns-in_err-add_band-4-clause-built : goal.returns-in_err-add_band-4-clause-built
+returns-in_err-add_band-4-clause-built c = unmade _ c.from_residual-in_err-add_band-4.result c.from_residual-in_err-add_band-4.ensures.0
+
+pub returns-in_err-add_band-4-clause-grows : goal.returns-in_err-add_band-4-clause-grows
+returns-in_err-add_band-4-clause-grows c = unmade _ c.from_residual-in_err-add_band-4.result c.from_residual-in_err-add_band-4.ensures.0
+
+pub returns-in_err-add_band-4-clause-closed : goal.returns-in_err-add_band-4-clause-closed
+returns-in_err-add_band-4-clause-closed c = unmade _ c.from_residual-in_err-add_band-4.result c.from_residual-in_err-add_band-4.ensures.0
+
+pub returns-in_err-add_band-4-clause-count : goal.returns-in_err-add_band-4-clause-count
+returns-in_err-add_band-4-clause-count c = unmade _ c.from_residual-in_err-add_band-4.result c.from_residual-in_err-add_band-4.ensures.0
+
+pub returns-in_err-add_band-5-clause-built : goal.returns-in_err-add_band-5-clause-built
+returns-in_err-add_band-5-clause-built c = unmade _ c.from_residual-in_err-add_band-5.result c.from_residual-in_err-add_band-5.ensures.0
+
+pub returns-in_err-add_band-5-clause-grows : goal.returns-in_err-add_band-5-clause-grows
+returns-in_err-add_band-5-clause-grows c = unmade _ c.from_residual-in_err-add_band-5.result c.from_residual-in_err-add_band-5.ensures.0
+
+pub returns-in_err-add_band-5-clause-closed : goal.returns-in_err-add_band-5-clause-closed
+returns-in_err-add_band-5-clause-closed c = unmade _ c.from_residual-in_err-add_band-5.result c.from_residual-in_err-add_band-5.ensures.0
+
+pub returns-in_err-add_band-5-clause-count : goal.returns-in_err-add_band-5-clause-count
+returns-in_err-add_band-5-clause-count c = unmade _ c.from_residual-in_err-add_band-5.result c.from_residual-in_err-add_band-5.ensures.0
+
+pub returns-in_err-id-clause-built : goal.returns-in_err-id-clause-built
+returns-in_err-id-clause-built c = unmade _ c.from_residual-in_err-id.result c.from_residual-in_err-id.ensures.0
+
+pub returns-in_err-id-clause-grows : goal.returns-in_err-id-clause-grows
+returns-in_err-id-clause-grows c = unmade _ c.from_residual-in_err-id.result c.from_residual-in_err-id.ensures.0
+
+pub returns-in_err-id-clause-closed : goal.returns-in_err-id-clause-closed
+returns-in_err-id-clause-closed c = unmade _ c.from_residual-in_err-id.result c.from_residual-in_err-id.ensures.0
+
+pub returns-in_err-id-clause-count : goal.returns-in_err-id-clause-count
+returns-in_err-id-clause-count c = unmade _ c.from_residual-in_err-id.result c.from_residual-in_err-id.ensures.0

@@ -20,6 +20,7 @@ use Rattle.rx_nfa.proofs.lemmas.parts.SlotLemmas.{written-within}
 use Rattle.rx_nfa.proofs.lemmas.reverse.ReverseLemmas.{HasReverseRuns-from}
 use Rattle.rx_nfa.specs.Prefixes.{HasSameRuns}
 use Rattle.rx_nfa.proofs.lemmas.prefixes.SharedLemmas.{with_states, HasRuns-shared, HasReverseRuns-shared}
+use Rattle.rx_nfa.proofs.lemmas.parts.UnmadeLemmas.{unmade}
 use Rattle.rx_nfa.proofs.compiler.build.Goals as goal
 
 pub finish-requires-clause-slots : goal.finish-requires-clause-slots
@@ -167,3 +168,18 @@ returns c =
           subst (λ n. HasReverseRuns n (patterns_of exprs utf8_empty (terminator_of c.args.config) (captures_of c.args.config))) (sym is)
           (record { patterns = runs.patterns; each = runs.each; all = runs.all }));
     }
+
+pub returns-in_err-group_info : goal.returns-in_err-group_info
+returns-in_err-group_info c = unmade _ c.from_residual.result c.from_residual.ensures.0
+
+pub returns-in_err-starts : goal.returns-in_err-starts
+returns-in_err-starts c = unmade _ c.from_residual-in_err-starts.result c.from_residual-in_err-starts.ensures.0
+
+pub returns-in_err-start : goal.returns-in_err-start
+returns-in_err-start c = unmade _ c.from_residual-in_err-start.result c.from_residual-in_err-start.ensures.0
+
+pub returns-in_err-share_prefixes : goal.returns-in_err-share_prefixes
+returns-in_err-share_prefixes c = unmade _ c.from_residual-in_err-share_prefixes.result c.from_residual-in_err-share_prefixes.ensures.0
+
+pub returns-in_err-nfa : goal.returns-in_err-nfa
+returns-in_err-nfa c = unmade _ c.from_residual-in_err-nfa.result c.from_residual-in_err-nfa.ensures.0

@@ -4,7 +4,7 @@ use Rattle.std.proofs.lemmas.Option.{slice_get_within}
 use Rattle.std.specs.Prelude.{true, IfSome, option_map}
 use Rattle.rx_model.specs.Search.{greatest_group}
 use Rattle.rx_search.specs.Limits.{slot_limit}
-use Rattle.rx_nfa.specs.Built.{HasPart}
+use Rattle.rx_nfa.specs.Built.{HasPart, HasParts}
 use Rattle.rx_nfa.specs.Directed.{directed_part}
 use Rattle.rx_search.specs.GroupInfo.{groups_at, slot_of_group}
 use Rattle.rx_hir.specs.Names.{group_names}
@@ -16,6 +16,7 @@ use Rattle.rx_nfa.proofs.lemmas.parts.CompileLemmas.{below-more}
 use Rattle.rx_nfa.proofs.lemmas.runs.GroupLemmas.{groups_at-names, first_slot-group}
 use Rattle.rx_nfa.proofs.lemmas.runs.PatternLemmas.{HasParts-more, sound-more}
 use Rattle.rx_nfa.proofs.lemmas.parts.SlotLemmas.{groups-inside, groups-there, whole-inside, whole-is, written-within, first_slot-more, part-is, room-more}
+use Rattle.rx_nfa.proofs.lemmas.parts.UnmadeLemmas.{unmade}
 use Rattle.rx_nfa.proofs.compiler.compile_patterns.Goals as goal
 
 pub compile_pattern-requires-clause-room : goal.compile_pattern-requires-clause-room
@@ -133,3 +134,55 @@ compile_pattern-requires-clause-new c =
     let index : c.unwrap-pattern.result ≡ c.loop-hir.hir-index = is.0 ∙ c.len.ensures ∙ c.loop-hir.invariant.len in
     let accepted = c.loop-hir.invariant.accepted in
     omega arith
+
+pub returns-in_err-start-clause-extends : goal.returns-in_err-start-clause-extends
+returns-in_err-start-clause-extends c = unmade _ c.from_residual.result c.from_residual.ensures.0
+
+pub returns-in_err-start-clause-len : goal.returns-in_err-start-clause-len
+returns-in_err-start-clause-len c = unmade _ c.from_residual.result c.from_residual.ensures.0
+
+pub returns-in_err-start-clause-has : goal.returns-in_err-start-clause-has
+returns-in_err-start-clause-has c = unmade _ c.from_residual.result c.from_residual.ensures.0
+
+pub returns-in_err-start-clause-inside : goal.returns-in_err-start-clause-inside
+returns-in_err-start-clause-inside c = unmade _ c.from_residual.result c.from_residual.ensures.0
+
+pub returns-in_err-start-clause-count : goal.returns-in_err-start-clause-count
+returns-in_err-start-clause-count c = unmade _ c.from_residual.result c.from_residual.ensures.0
+
+pub returns-in_err-start-clause-sound : goal.returns-in_err-start-clause-sound
+returns-in_err-start-clause-sound c = unmade _ c.from_residual.result c.from_residual.ensures.0
+
+pub returns-in_err-push-clause-extends : goal.returns-in_err-push-clause-extends
+returns-in_err-push-clause-extends c = unmade _ c.from_residual-in_err-push.result c.from_residual-in_err-push.ensures.0
+
+pub returns-in_err-push-clause-len : goal.returns-in_err-push-clause-len
+returns-in_err-push-clause-len c = unmade _ c.from_residual-in_err-push.result c.from_residual-in_err-push.ensures.0
+
+pub returns-in_err-push-clause-has : goal.returns-in_err-push-clause-has
+returns-in_err-push-clause-has c = unmade _ c.from_residual-in_err-push.result c.from_residual-in_err-push.ensures.0
+
+pub returns-in_err-push-clause-inside : goal.returns-in_err-push-clause-inside
+returns-in_err-push-clause-inside c = unmade _ c.from_residual-in_err-push.result c.from_residual-in_err-push.ensures.0
+
+pub returns-in_err-push-clause-count : goal.returns-in_err-push-clause-count
+returns-in_err-push-clause-count c = unmade _ c.from_residual-in_err-push.result c.from_residual-in_err-push.ensures.0
+
+pub returns-in_err-push-clause-sound : goal.returns-in_err-push-clause-sound
+returns-in_err-push-clause-sound c = unmade _ c.from_residual-in_err-push.result c.from_residual-in_err-push.ensures.0
+
+pub returns-clause-extends : goal.returns-clause-extends
+returns-clause-extends c = c.loop-hir.invariant.extends
+
+pub returns-clause-inside : goal.returns-clause-inside
+returns-clause-inside c = c.loop-hir.invariant.inside
+
+pub returns-clause-len : goal.returns-clause-len
+returns-clause-len c = let items = c.loop-hir.invariant.items in omega arith
+
+pub returns-clause-has : goal.returns-clause-has
+returns-clause-has c =
+    let exprs = c.args.exprs.now in
+    let all : c.loop-hir.hir-index ≡ length c.args.exprs.now = omega arith in
+    subst (λ n. HasParts c.loop-hir.builder.states (directed_part c.args.reverse (patterns_of exprs true 0 (captures_kind c.args.which))) exprs n
+    c.loop-hir.starts.items) all c.loop-hir.invariant.has

@@ -1,9 +1,10 @@
 -- What is noted of where states are come to from.
-use Rattle.std.proofs.Common.{◌≡◌, ◌≢◌, ℕ, ◌≤◌, ◌<◌, List, length, refl, ◌∙◌, ap, ⊎_elim, arith, get_or, get_or-set_other, get_or-set_same}
+use Rattle.std.proofs.Common.{◌≡◌, ◌≢◌, ℕ, ◌+◌, ◌≤◌, ◌<◌, List, length, refl, ◌∙◌, ap, subst, ⊎_elim, arith, get_or, get_or-set_other, get_or-set_same}
 use Rattle.std.specs.Prelude.{All, slice_set}
 use Rattle.std.proofs.Math.ListN.{length-set}
-use Rattle.std.proofs.lemmas.Bool.{cases_eq}
+use Rattle.std.proofs.lemmas.Bool.{cases_eq, cases_lt}
 use Rattle.std.proofs.lemmas.List.Elements.{All-weaker}
+use Rattle.rx_nfa.specs.Automaton.{state_at}
 use Rattle.rx_nfa.specs.Named.{first_in, last_in, Spans, Widens}
 use Rattle.rx_nfa.specs.Prefixes.{LeadsInto}
 use Rattle.rx_nfa.specs.declared.prefixes.named.Named.{Named}
@@ -34,6 +35,16 @@ all-wider old new by qs w h = All-weaker (Spans old by) (Spans new by) (λ q s. 
 
 pub leads-wider : (old new : List Named) (by : ℕ) (s : State) → Widens old new → LeadsInto (Spans old by) s → LeadsInto (Spans new by) s
 leads-wider old new by s w h = LeadsInto-map (Spans old by) (Spans new by) (λ q k. Spans-wider old new by q w k) s h
+
+-- one state more was noted
+pub named-next : (states : List State) (old new : List Named) (by : ℕ) → Widens old new
+    → ((r : ℕ) → r < by → LeadsInto (Spans old r) (state_at states r)) → LeadsInto (Spans new by) (state_at states by)
+    → (r : ℕ) → r < by + 1 → LeadsInto (Spans new r) (state_at states r)
+named-next states old new by w before here r lt =
+    ⊎_elim
+    (λ less. leads-wider old new r (state_at states r) w (before r less))
+    (λ above. let same : by ≡ r = omega arith in subst (λ k. LeadsInto (Spans new k) (state_at states k)) same here)
+    (cases_lt r by)
 
 -- one entry is widened
 module _ (old : List Named) (q first last : ℕ) (inside : q < length old) (lower : first ≤ first_in old q) (higher : last_in old q ≤ last) where

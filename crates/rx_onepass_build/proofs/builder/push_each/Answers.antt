@@ -1,4 +1,4 @@
-use Rattle.std.proofs.Common.{◌<◌, ◌≤◌, length, sym, subst, arith}
+use Rattle.std.proofs.Common.{◌<◌, ◌≤◌, length, get_or, sym, ◌∙◌, ap, subst, arith}
 use Rattle.std.proofs.lemmas.Result.{err_from_is_err_and}
 use Rattle.rx_onepass_table.specs.Entry.{IsEntry}
 use Rattle.rx_onepass_build.specs.Build.{IsMadeInVain, AreStarts}
@@ -67,3 +67,72 @@ returns-clause-starts c =
     subst (λ b. AreStarts c.args.job.now.nfa.now b c.loop-pattern.entries.items.items c.loop-pattern.starts.items) (sym c.requires.each)
     (starts-all c.args.job.now.nfa.now c.loop-pattern.entries.items.items c.loop-pattern.starts.items c.loop-pattern.pattern le
     c.loop-pattern.invariant.within c.loop-pattern.invariant.count c.loop-pattern.invariant.common c.loop-pattern.invariant.each)
+
+pub bounds-of_each-pattern : goal.bounds-of_each-pattern
+bounds-of_each-pattern c = c.loop-pattern-test.true
+
+pub returns-clause-are : goal.returns-clause-are
+returns-clause-are c = c.loop-pattern.invariant.are
+
+pub returns-clause-err : goal.returns-clause-err
+returns-clause-err c = tt
+
+pub returns-clause-met : goal.returns-clause-met
+returns-clause-met c = c.loop-pattern.invariant.met
+
+pub returns-clause-of : goal.returns-clause-of
+returns-clause-of c = c.loop-pattern.invariant.of
+
+pub returns-in_err-push-clause-are : goal.returns-in_err-push-clause-are
+returns-in_err-push-clause-are c =
+    let p = err_from_is_err_and c.from_residual-in_err-push.result c.from_residual-in_err-push.ensures.1 in
+    rw p.1 tt
+
+pub returns-in_err-push-clause-met : goal.returns-in_err-push-clause-met
+returns-in_err-push-clause-met c =
+    let p = err_from_is_err_and c.from_residual-in_err-push.result c.from_residual-in_err-push.ensures.1 in
+    rw p.1 tt
+
+pub returns-in_err-push-clause-of : goal.returns-in_err-push-clause-of
+returns-in_err-push-clause-of c =
+    let p = err_from_is_err_and c.from_residual-in_err-push.result c.from_residual-in_err-push.ensures.1 in
+    rw p.1 tt
+
+pub returns-in_err-push-clause-starts : goal.returns-in_err-push-clause-starts
+returns-in_err-push-clause-starts c =
+    let p = err_from_is_err_and c.from_residual-in_err-push.result c.from_residual-in_err-push.ensures.1 in
+    rw p.1 tt
+
+pub returns-in_err-row-clause-are : goal.returns-in_err-row-clause-are
+returns-in_err-row-clause-are c =
+    let p = err_from_is_err_and c.from_residual.result c.from_residual.ensures.1 in
+    rw p.1 tt
+
+pub returns-in_err-row-clause-met : goal.returns-in_err-row-clause-met
+returns-in_err-row-clause-met c =
+    let p = err_from_is_err_and c.from_residual.result c.from_residual.ensures.1 in
+    rw p.1 tt
+
+pub returns-in_err-row-clause-of : goal.returns-in_err-row-clause-of
+returns-in_err-row-clause-of c =
+    let p = err_from_is_err_and c.from_residual.result c.from_residual.ensures.1 in
+    rw p.1 tt
+
+pub returns-in_err-row-clause-starts : goal.returns-in_err-row-clause-starts
+returns-in_err-row-clause-starts c =
+    let p = err_from_is_err_and c.from_residual.result c.from_residual.ensures.1 in
+    rw p.1 tt
+
+pub row_of-requires-clause-met : goal.row_of-requires-clause-met
+row_of-requires-clause-met c = c.loop-pattern.invariant.met
+
+pub starts-of_each-requires : goal.starts-of_each-requires
+starts-of_each-requires c = tt
+
+pub row_of-requires-clause-state : goal.row_of-requires-clause-state
+row_of-requires-clause-state c =
+    let row = c.index-of_each-pattern.result in
+    let lt = subst (λ xs. c.loop-pattern.pattern < length xs) c.starts-of_each.ensures.value c.loop-pattern-test.true in
+    let read = c.index-of_each-pattern.is ∙ ap (λ xs. get_or xs c.loop-pattern.pattern row) c.starts-of_each.ensures.value in
+    subst (λ n. row < n) (sym (c.loop-pattern.invariant.of.states ∙ c.requires.numbers))
+    (subst (λ q. q < length c.args.job.now.nfa.now.states) (sym read) (c.requires.job.in_range.starts c.loop-pattern.pattern row lt))

@@ -1,9 +1,9 @@
-use Rattle.std.proofs.Common.{◌<◌, sym, ◌∙◌, ap, subst, slice_index}
+use Rattle.std.proofs.Common.{◌<◌, sym, ◌∙◌, ap, subst, slice_index, refl, arith}
 use Rattle.std.proofs.lemmas.Result.{err_from_is_err_and}
 use Rattle.rx_nfa.specs.Ordered.{target}
 use Rattle.rx_onepass_build.specs.Filling.{step_at}
 use Rattle.rx_onepass_build.specs.Rows.{IsPut}
-use Rattle.rx_onepass_build.proofs.lemmas.EntryLemmas.{no-room, entries-grow}
+use Rattle.rx_onepass_build.proofs.lemmas.EntryLemmas.{same-of, grows-of, no-room, entries-grow}
 use Rattle.rx_onepass_build.proofs.lemmas.StepLemmas.{step-none, next-entry, step-put, step-conflict}
 use Rattle.rx_onepass_build.proofs.lemmas.WalkingLemmas.{target-inside}
 use Rattle.rx_onepass_build.proofs.closure.add_step.Goals as goal
@@ -52,3 +52,80 @@ returns-clause-err c done way on h =
           (subst (IsPut (step_at c.args.cells.now.items c.args.class) c.new-step.result (step_at c.add.new.cells.items c.args.class)) c.if-add.false
           c.add.ensures.value),
     )
+
+pub add-requires : goal.add-requires
+add-requires c = let width = c.requires.width in let class = c.requires.class in omega arith
+
+pub bounds-job-class : goal.bounds-job-class
+bounds-job-class c = let each = c.requires.job.bytes.each in let class = c.requires.class in omega arith
+
+pub new-step-requires-clause-looks : goal.new-step-requires-clause-looks
+new-step-requires-clause-looks c = c.requires.small.looks
+
+pub new-step-requires-clause-target : goal.new-step-requires-clause-target
+new-step-requires-clause-target c = c.in_ok-row.ensures.small
+
+pub returns-clause-cells : goal.returns-clause-cells
+returns-clause-cells c = tt
+
+pub returns-clause-met : goal.returns-clause-met
+returns-clause-met c = tt
+
+pub returns-clause-of : goal.returns-clause-of
+returns-clause-of c = tt
+
+pub returns-clause-width : goal.returns-clause-width
+returns-clause-width c = tt
+
+pub returns-in_default-clause-err : goal.returns-in_default-clause-err
+returns-in_default-clause-err c done way on h = tt
+
+pub returns-in_default-clause-met : goal.returns-in_default-clause-met
+returns-in_default-clause-met c = c.requires.met
+
+pub returns-in_default-clause-of : goal.returns-in_default-clause-of
+returns-in_default-clause-of c = same-of c.args.entries.now
+
+pub returns-in_default-clause-width : goal.returns-in_default-clause-width
+returns-in_default-clause-width c = refl
+
+pub returns-in_err-row-clause-cells : goal.returns-in_err-row-clause-cells
+returns-in_err-row-clause-cells c =
+    let p = err_from_is_err_and c.from_residual.result c.from_residual.ensures.1 in
+    rw p.1 tt
+
+pub returns-in_err-row-clause-met : goal.returns-in_err-row-clause-met
+returns-in_err-row-clause-met c =
+    let p = err_from_is_err_and c.from_residual.result c.from_residual.ensures.1 in
+    rw p.1 tt
+
+pub returns-in_err-row-clause-of : goal.returns-in_err-row-clause-of
+returns-in_err-row-clause-of c =
+    let p = err_from_is_err_and c.from_residual.result c.from_residual.ensures.1 in
+    rw p.1 tt
+
+pub returns-in_err-row-clause-width : goal.returns-in_err-row-clause-width
+returns-in_err-row-clause-width c =
+    let p = err_from_is_err_and c.from_residual.result c.from_residual.ensures.1 in
+    rw p.1 tt
+
+pub returns-then-add-clause-err : goal.returns-then-add-clause-err
+returns-then-add-clause-err c done way on h = tt
+
+pub returns-then-add-clause-met : goal.returns-then-add-clause-met
+returns-then-add-clause-met c = c.in_ok-row.ensures.met
+
+pub returns-then-add-clause-of : goal.returns-then-add-clause-of
+returns-then-add-clause-of c = grows-of c.args.entries.now c.row_of.new.self c.in-Some.next c.in_ok-row.ensures.grows
+
+pub returns-then-add-clause-width : goal.returns-then-add-clause-width
+returns-then-add-clause-width c = c.add.ensures.width
+
+pub row_of-requires-clause-met : goal.row_of-requires-clause-met
+row_of-requires-clause-met c = c.requires.met
+
+pub state-requires : goal.state-requires
+state-requires c = c.requires.inside
+
+pub target_of-requires : goal.target_of-requires
+target_of-requires c = tt

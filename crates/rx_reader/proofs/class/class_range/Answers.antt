@@ -1,6 +1,5 @@
 use Rattle.std.proofs.Common.{arith, ◌≡◌, sym, subst}
 use Rattle.std.proofs.lemmas.Grind.{common_steps}
-use Rattle.std.proofs.lemmas.Result.{err_from_is_err_and}
 use Rattle.rx_reader.specs.Input.{place, Reads}
 use Rattle.rx_reader.proofs.lemmas.places.ReadsLemmas.{refuses_from, refuses}
 use Rattle.rx_reader.specs.Classes.{class_range, member, range_of}
@@ -18,18 +17,16 @@ pub returns-then-is_at_end-clause-value : goal.returns-then-is_at_end-clause-val
 unfolding class_range
 returns-then-is_at_end-clause-value c from p piece start = rw c.refuse.ensures (grind (arith, common_steps))
 
-pub returns-in_err-high-clause-value : goal.returns-in_err-high-clause-value
+pub returns-in-Err-clause-value : goal.returns-in-Err-clause-value
 unfolding class_range
-returns-in_err-high-clause-value c from p piece start =
-    let e = err_from_is_err_and c.from_residual.result c.from_residual.ensures.1 in
-    rw (e.1, e.2) (refuses_from _ _ (λ x is.
-    let stops = refuses _ (member c.args.syntax.octal (place c.skip_white.new.self)) c.in_err-high.ensures.value x is in
-    grind (arith, common_steps)))
+returns-in-Err-clause-value c from p piece start = refuses_from _ _ (λ x is.
+    let stops = refuses _ (member c.args.syntax.octal (place c.skip_white.new.self)) c.in-Err.ensures.value x is in
+    grind (arith, common_steps))
 
-pub returns-clause-value : goal.returns-clause-value
+pub returns-in-Ok-clause-value : goal.returns-in-Ok-clause-value
 unfolding class_range
-returns-clause-value c from p piece start =
+returns-in-Ok-clause-value c from p piece start =
     let q = place c.member.new.cursor in
-    let same : class_range c.args.syntax.octal c.args.syntax.skips from p c.args.low (place c.args.cursor.now) ≡ range_of p c.args.low c.in_ok-high.high q =
+    let same : class_range c.args.syntax.octal c.args.syntax.skips from p c.args.low (place c.args.cursor.now) ≡ range_of p c.args.low c.in-Ok.high q =
     grind (arith, common_steps) in
     subst (λ reading. Reads c.range_of.result reading q) (sym same) (c.range_of.ensures p start)

@@ -20,12 +20,12 @@ pub loop-flags-preserved : goal.loop-flags-preserved
 loop-flags-preserved c =
     let l = c.loop-flags in
     let p = place l.cursor in
-    let o = c.in_ok-operator.operator in
+    let o = c.in-Ok.operator in
     let at : is_operator p ≡ true = sym c.is_at.ensures.value ∙ c.loop-flags-test.true in
     let within : nat_lt (limit_of c.args.config) (depth (repeated_by o l.item)) ≡ false = grind (arith, nat_tests) in
     record {
-      read = l.invariant.read ∙ repeat_goes c.args.config c.args.flags l.item p o (place c.read_operator.new.cursor) at c.in_ok-operator.ensures.value within
+      read = l.invariant.read ∙ repeat_goes c.args.config c.args.flags l.item p o (place c.read_operator.new.cursor) at c.in-Ok.ensures.value within
           ∙ ap (repeated_from c.args.config c.args.flags (repeated_by o l.item)) (sym c.skip-in-loop-flags.ensures.value)
           ∙ ap (λ (s : Syntax). repeated_from c.args.config c.args.flags s (place c.skip-in-loop-flags.new.self)) (sym c.in_ok-item.ensures);
-      moves = omega (arith, l.invariant.moves, c.in_ok-operator.ensures.progress, c.skip-in-loop-flags.ensures.progress);
+      moves = omega (arith, l.invariant.moves, c.in-Ok.ensures.progress, c.skip-in-loop-flags.ensures.progress);
     }

@@ -1,10 +1,10 @@
-use Rattle.std.proofs.Common.{◌≡◌, ℕ, length, sym, ap, ◌∙◌, subst}
-use Rattle.std.specs.Prelude.{Option, None, IfNone, replicate}
+use Rattle.std.proofs.Common.{◌≡◌, ℕ, subst}
+use Rattle.std.specs.Prelude.{None, IfNone, replicate}
 use Rattle.rx_search.specs.Input.{InputValue}
-use Rattle.rx_nfa.specs.Nfa.{Nfa, IsInRange}
-use Rattle.rx_onepass.specs.Search.{IsFound, IsRefusal}
+use Rattle.rx_nfa.specs.Nfa.{IsInRange}
+use Rattle.rx_onepass.specs.Search.{IsFound}
 use Rattle.rx_strategy.specs.OnePass.{begun}
-use Rattle.rx_strategy.proofs.OnePassLemmas.{begun-anchored, never-refused, found-told, found-in-range, found-places}
+use Rattle.rx_strategy.proofs.OnePassLemmas.{begun-anchored, found-told, found-in-range, found-places}
 use Rattle.rx_strategy.proofs.onepass.find_in_one_pass.Goals as goal
 
 pub returns-clause-told : goal.returns-clause-told

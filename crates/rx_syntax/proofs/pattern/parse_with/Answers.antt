@@ -22,4 +22,4 @@ pub returns : goal.returns
 unfolding reads
 returns c =
     let same = ap (λ r. r >>= translated c.args.config.now) c.in_ok-ast.ensures in
-    subst (λ (r : Result Expression SyntaxError). Answers c.translate_with.result r) (sym same) c.translate_with.ensures
+    subst (λ (r : Result Expression SyntaxError). Answers c.translate_with-translated.result r) (sym same) c.translate_with-translated.ensures

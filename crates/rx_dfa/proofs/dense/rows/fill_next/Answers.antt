@@ -217,3 +217,96 @@ returns-in-Some-get_index-clause-more c _ = omega arith
 
 pub returns-in-Some-get_index-clause-all : goal.returns-in-Some-get_index-clause-all
 returns-in-Some-get_index-clause-all c is = absurd (true≢false is)
+
+pub push_row-requires-clause-count : goal.push_row-requires-clause-count
+push_row-requires-clause-count c = c.requires.count
+
+pub push_row-requires-clause-found : goal.push_row-requires-clause-found
+push_row-requires-clause-found c = c.requires.found
+
+pub push_row-requires-clause-job : goal.push_row-requires-clause-job
+push_row-requires-clause-job c = c.requires.job
+
+pub push_row-requires-clause-known : goal.push_row-requires-clause-known
+push_row-requires-clause-known c = c.requires.known
+
+pub push_row-requires-clause-room : goal.push_row-requires-clause-room
+push_row-requires-clause-room c = c.requires.room
+
+pub push_row-requires-clause-wide : goal.push_row-requires-clause-wide
+push_row-requires-clause-wide c = c.requires.wide
+
+pub push_row-requires-in-Some-get_index-clause-count : goal.push_row-requires-in-Some-get_index-clause-count
+push_row-requires-in-Some-get_index-clause-count c = c.requires.count
+
+pub push_row-requires-in-Some-get_index-clause-found : goal.push_row-requires-in-Some-get_index-clause-found
+push_row-requires-in-Some-get_index-clause-found c = c.requires.found
+
+pub push_row-requires-in-Some-get_index-clause-job : goal.push_row-requires-in-Some-get_index-clause-job
+push_row-requires-in-Some-get_index-clause-job c = c.requires.job
+
+pub push_row-requires-in-Some-get_index-clause-known : goal.push_row-requires-in-Some-get_index-clause-known
+push_row-requires-in-Some-get_index-clause-known c = c.requires.known
+
+pub push_row-requires-in-Some-get_index-clause-room : goal.push_row-requires-in-Some-get_index-clause-room
+push_row-requires-in-Some-get_index-clause-room c = c.requires.room
+
+pub push_row-requires-in-Some-get_index-clause-wide : goal.push_row-requires-in-Some-get_index-clause-wide
+push_row-requires-in-Some-get_index-clause-wide c = c.requires.wide
+
+pub returns-clause-count : goal.returns-clause-count
+returns-clause-count c = c.requires.count
+
+pub returns-clause-known : goal.returns-clause-known
+returns-clause-known c = c.requires.known
+
+pub returns-clause-room : goal.returns-clause-room
+returns-clause-room c = c.requires.room
+
+pub returns-clause-within : goal.returns-clause-within
+returns-clause-within c = c.requires.within
+
+pub returns-clause-more : goal.returns-clause-more
+returns-clause-more c is = absurd (true≢false (sym is))
+
+pub returns-in-Some-clause-count : goal.returns-in-Some-clause-count
+returns-in-Some-clause-count c = c.in_ok-push_row.ensures.count
+
+pub returns-in-Some-get_index-clause-count : goal.returns-in-Some-get_index-clause-count
+returns-in-Some-get_index-clause-count c = c.in_ok-push_row-2.ensures.count
+
+pub returns-in-Some-clause-grows : goal.returns-in-Some-clause-grows
+returns-in-Some-clause-grows c = c.in_ok-push_row.ensures.grows
+
+pub returns-in-Some-get_index-clause-grows : goal.returns-in-Some-get_index-clause-grows
+returns-in-Some-get_index-clause-grows c = c.in_ok-push_row-2.ensures.grows
+
+pub returns-in-Some-clause-known : goal.returns-in-Some-clause-known
+returns-in-Some-clause-known c = c.in_ok-push_row.ensures.known
+
+pub returns-in-Some-get_index-clause-known : goal.returns-in-Some-get_index-clause-known
+returns-in-Some-get_index-clause-known c = c.in_ok-push_row-2.ensures.known
+
+pub returns-in-Some-clause-room : goal.returns-in-Some-clause-room
+returns-in-Some-clause-room c = c.in_ok-push_row.ensures.room
+
+pub returns-in-Some-get_index-clause-room : goal.returns-in-Some-get_index-clause-room
+returns-in-Some-get_index-clause-room c = c.in_ok-push_row-2.ensures.room
+
+pub returns-in_err-push_row-clause-grows : goal.returns-in_err-push_row-clause-grows
+returns-in_err-push_row-clause-grows c = c.in_err-push_row.ensures.grows
+
+pub returns-in_err-push_row-2-clause-grows : goal.returns-in_err-push_row-2-clause-grows
+returns-in_err-push_row-2-clause-grows c = c.in_err-push_row-2.ensures.grows
+
+pub returns-in_err-push_row-clause-room : goal.returns-in_err-push_row-clause-room
+returns-in_err-push_row-clause-room c = c.in_err-push_row.ensures.room
+
+pub returns-in_err-push_row-2-clause-room : goal.returns-in_err-push_row-2-clause-room
+returns-in_err-push_row-2-clause-room c = c.in_err-push_row-2.ensures.room
+
+pub returns-in_err-copy-clause-room : goal.returns-in_err-copy-clause-room
+returns-in_err-copy-clause-room c = c.requires.room
+
+pub returns-in_err-copy-2-clause-room : goal.returns-in_err-copy-2-clause-room
+returns-in_err-copy-2-clause-room c = c.requires.room

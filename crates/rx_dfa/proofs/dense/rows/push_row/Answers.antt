@@ -1,3 +1,4 @@
+use Rattle.rx_dfa.specs.States.{IsState}
 use Rattle.std.proofs.Common.{◌≡◌, ℕ, ◌+◌, ◌++◌, ◌∷◌, [], length, refl, sym, ◌∙◌, subst, arith}
 use Rattle.std.specs.Prelude.{slice_index}
 use Rattle.std.proofs.lemmas.Result.{err_from_is_err_and}
@@ -12,7 +13,7 @@ use Rattle.rx_dfa.specs.declared.state_key.StateKey.{StateKey}
 use Rattle.rx_dfa.proofs.lemmas.ErrorLemmas.{refused-before}
 use Rattle.rx_dfa.proofs.lemmas.RowLemmas.{number-grows, grows-same, grows-on, part-none, part-push}
 use Rattle.rx_dfa.proofs.lemmas.FindLemmas.{memory-refused}
-use Rattle.rx_dfa.proofs.lemmas.FilledLemmas.{row-made}
+use Rattle.rx_dfa.proofs.lemmas.FilledLemmas.{row-made, unmade}
 use Rattle.rx_dfa.proofs.lemmas.KnownLemmas.{known-grows}
 use Rattle.rx_dfa.proofs.dense.rows.push_row.Goals as goal
 
@@ -151,3 +152,121 @@ returns-in_err-push-2-clause-made c =
       ok = rw (e.1) tt;
       err = rw (e.1) (memory-refused (dfa_in c.args.job.now) c.args.found.now.stride c.args.found.now.limit e.0 e.2);
     }
+
+pub any_cell-requires-clause-class : goal.any_cell-requires-clause-class
+any_cell-requires-clause-class c = omega (arith, c.args.job.now.alphabet.now.bytes.ok.0, c.loop-class-test.true, c.loop-class.auto.class-end)
+
+pub any_cell-requires-clause-count : goal.any_cell-requires-clause-count
+any_cell-requires-clause-count c = c.loop-class.invariant.count
+
+pub any_cell-requires-clause-known : goal.any_cell-requires-clause-known
+any_cell-requires-clause-known c = c.loop-class.invariant.known
+
+pub any_cell-requires-clause-found : goal.any_cell-requires-clause-found
+any_cell-requires-clause-found c = c.loop-class.invariant.found
+
+pub any_cell-requires-clause-job : goal.any_cell-requires-clause-job
+any_cell-requires-clause-job c = c.requires.job
+
+pub any_cell-requires-clause-room : goal.any_cell-requires-clause-room
+any_cell-requires-clause-room c = c.loop-class.invariant.room
+
+pub any_cell-requires-clause-spread : goal.any_cell-requires-clause-spread
+any_cell-requires-clause-spread c is =
+    subst (λ (r : StateKey). IsSpread (dfa_in c.args.job.now) (key_of r) c.loop-class.spread) (sym c.loop-class.invariant.row) (c.loop-class.invariant.spread is)
+
+pub any_cell-requires-clause-state : goal.any_cell-requires-clause-state
+any_cell-requires-clause-state c =
+    subst (λ (r : StateKey). IsState (dfa_in c.args.job.now) (key_of r)) (sym c.loop-class.invariant.row) c.requires.state
+
+pub any_end-requires-clause-found : goal.any_end-requires-clause-found
+any_end-requires-clause-found c = c.loop-class.invariant.found
+
+pub any_end-requires-clause-job : goal.any_end-requires-clause-job
+any_end-requires-clause-job c = c.requires.job
+
+pub any_end-requires-clause-room : goal.any_end-requires-clause-room
+any_end-requires-clause-room c = c.loop-class.invariant.room
+
+pub any_end-requires-clause-spread : goal.any_end-requires-clause-spread
+any_end-requires-clause-spread c is =
+    subst (λ (r : StateKey). IsSpread (dfa_in c.args.job.now) (key_of r) c.loop-class.spread) (sym c.loop-class.invariant.row) (c.loop-class.invariant.spread is)
+
+pub any_end-requires-clause-state : goal.any_end-requires-clause-state
+any_end-requires-clause-state c =
+    subst (λ (r : StateKey). IsState (dfa_in c.args.job.now) (key_of r)) (sym c.loop-class.invariant.row) c.requires.state
+
+pub invariant_of-resize : goal.invariant_of-resize
+invariant_of-resize c = omega arith
+
+pub take-requires-clause-below : goal.take-requires-clause-below
+take-requires-clause-below c = c.requires.state.below
+
+pub take-requires-clause-count : goal.take-requires-clause-count
+take-requires-clause-count c = c.requires.count
+
+pub take-requires-clause-job : goal.take-requires-clause-job
+take-requires-clause-job c = c.requires.job
+
+pub take-requires-clause-room : goal.take-requires-clause-room
+take-requires-clause-room c = c.requires.room
+
+pub returns-clause-count : goal.returns-clause-count
+returns-clause-count c = c.loop-class.invariant.count
+
+pub returns-clause-room : goal.returns-clause-room
+returns-clause-room c = c.in_ok-last.ensures.room
+
+pub returns-in_err-is_spread-clause-count : goal.returns-in_err-is_spread-clause-count
+returns-in_err-is_spread-clause-count c = unmade _ _ c.from_residual.result c.from_residual.ensures.1
+
+pub returns-in_err-is_spread-clause-known : goal.returns-in_err-is_spread-clause-known
+returns-in_err-is_spread-clause-known c = unmade _ _ c.from_residual.result c.from_residual.ensures.1
+
+pub returns-in_err-is_spread-clause-room : goal.returns-in_err-is_spread-clause-room
+returns-in_err-is_spread-clause-room c = c.in_err-is_spread.ensures.room
+
+pub returns-in_err-cell-clause-count : goal.returns-in_err-cell-clause-count
+returns-in_err-cell-clause-count c = unmade _ _ c.from_residual-in_err-cell.result c.from_residual-in_err-cell.ensures.1
+
+pub returns-in_err-cell-clause-known : goal.returns-in_err-cell-clause-known
+returns-in_err-cell-clause-known c = unmade _ _ c.from_residual-in_err-cell.result c.from_residual-in_err-cell.ensures.1
+
+pub returns-in_err-cell-clause-room : goal.returns-in_err-cell-clause-room
+returns-in_err-cell-clause-room c = c.in_err-cell.ensures.room
+
+pub returns-in_err-push-clause-count : goal.returns-in_err-push-clause-count
+returns-in_err-push-clause-count c = unmade _ _ c.from_residual-in_err-push.result c.from_residual-in_err-push.ensures.1
+
+pub returns-in_err-push-clause-known : goal.returns-in_err-push-clause-known
+returns-in_err-push-clause-known c = unmade _ _ c.from_residual-in_err-push.result c.from_residual-in_err-push.ensures.1
+
+pub returns-in_err-push-clause-room : goal.returns-in_err-push-clause-room
+returns-in_err-push-clause-room c = c.in_ok-cell.ensures.room
+
+pub returns-in_err-last-clause-count : goal.returns-in_err-last-clause-count
+returns-in_err-last-clause-count c = unmade _ _ c.from_residual-in_err-last.result c.from_residual-in_err-last.ensures.1
+
+pub returns-in_err-last-clause-known : goal.returns-in_err-last-clause-known
+returns-in_err-last-clause-known c = unmade _ _ c.from_residual-in_err-last.result c.from_residual-in_err-last.ensures.1
+
+pub returns-in_err-last-clause-room : goal.returns-in_err-last-clause-room
+returns-in_err-last-clause-room c = c.in_err-last.ensures.room
+
+pub returns-in_err-push-2-clause-count : goal.returns-in_err-push-2-clause-count
+returns-in_err-push-2-clause-count c = unmade _ _ c.from_residual-in_err-push-2.result c.from_residual-in_err-push-2.ensures.1
+
+pub returns-in_err-push-2-clause-known : goal.returns-in_err-push-2-clause-known
+returns-in_err-push-2-clause-known c = unmade _ _ c.from_residual-in_err-push-2.result c.from_residual-in_err-push-2.ensures.1
+
+pub returns-in_err-push-2-clause-room : goal.returns-in_err-push-2-clause-room
+returns-in_err-push-2-clause-room c = c.in_ok-last.ensures.room
+
+pub returns-in_err-resize-clause-count : goal.returns-in_err-resize-clause-count
+returns-in_err-resize-clause-count c = unmade _ _ c.from_residual-in_err-resize.result c.from_residual-in_err-resize.ensures.1
+
+pub returns-in_err-resize-clause-known : goal.returns-in_err-resize-clause-known
+returns-in_err-resize-clause-known c = unmade _ _ c.from_residual-in_err-resize.result c.from_residual-in_err-resize.ensures.1
+
+pub returns-in_err-resize-clause-room : goal.returns-in_err-resize-clause-room
+returns-in_err-resize-clause-room c = c.in_ok-last.ensures.room

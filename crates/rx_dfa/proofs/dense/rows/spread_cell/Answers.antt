@@ -1,4 +1,6 @@
-use Rattle.std.proofs.Common.{◌≡◌, ℕ, length, sym, ◌∙◌, ap, subst}
+use Rattle.rx_dfa.proofs.lemmas.RowLemmas.{grows-same}
+use Rattle.rx_dfa.proofs.lemmas.FilledLemmas.{unmade}
+use Rattle.std.proofs.Common.{◌≡◌, ℕ, length, sym, ◌∙◌, ap, subst, refl, arith}
 use Rattle.std.specs.Prelude.{Some, None, slice_index, if◌then◌else◌}
 use Rattle.std.proofs.lemmas.List.{get_or_read}
 use Rattle.std.proofs.lemmas.Result.{err_from_is_err_and}
@@ -177,3 +179,141 @@ returns-clause-made c =
     (c.in_ok-state.ensures.made d c.requires.found
     (λ live. next-is d j.alphabet.now.words c.requires.job k c.args.class c.requires.class (key_of c.arrive.new.into) next c.requires.state read
     c.in_ok-arrive.ensures.below live))
+
+pub returns-in_err-reach-clause-count : goal.returns-in_err-reach-clause-count
+returns-in_err-reach-clause-count c = unmade _ _ c.from_residual.result c.from_residual.ensures.1
+
+pub returns-in_err-reach-clause-known : goal.returns-in_err-reach-clause-known
+returns-in_err-reach-clause-known c = unmade _ _ c.from_residual.result c.from_residual.ensures.1
+
+pub returns-in_err-reach-clause-spread : goal.returns-in_err-reach-clause-spread
+returns-in_err-reach-clause-spread c = unmade _ _ c.from_residual.result c.from_residual.ensures.1
+
+pub returns-in_err-reach-clause-row : goal.returns-in_err-reach-clause-row
+returns-in_err-reach-clause-row c = refl
+
+pub returns-in_err-arrive-clause-count : goal.returns-in_err-arrive-clause-count
+returns-in_err-arrive-clause-count c = unmade _ _ c.from_residual-in_err-arrive.result c.from_residual-in_err-arrive.ensures.1
+
+pub returns-in_err-arrive-clause-known : goal.returns-in_err-arrive-clause-known
+returns-in_err-arrive-clause-known c = unmade _ _ c.from_residual-in_err-arrive.result c.from_residual-in_err-arrive.ensures.1
+
+pub returns-in_err-arrive-clause-spread : goal.returns-in_err-arrive-clause-spread
+returns-in_err-arrive-clause-spread c = unmade _ _ c.from_residual-in_err-arrive.result c.from_residual-in_err-arrive.ensures.1
+
+pub returns-in_err-arrive-clause-row : goal.returns-in_err-arrive-clause-row
+returns-in_err-arrive-clause-row c = refl
+
+pub returns-in_err-state-clause-count : goal.returns-in_err-state-clause-count
+returns-in_err-state-clause-count c = unmade _ _ c.from_residual-in_err-state.result c.from_residual-in_err-state.ensures.1
+
+pub returns-in_err-state-clause-known : goal.returns-in_err-state-clause-known
+returns-in_err-state-clause-known c = unmade _ _ c.from_residual-in_err-state.result c.from_residual-in_err-state.ensures.1
+
+pub returns-in_err-state-clause-spread : goal.returns-in_err-state-clause-spread
+returns-in_err-state-clause-spread c = unmade _ _ c.from_residual-in_err-state.result c.from_residual-in_err-state.ensures.1
+
+pub returns-in_err-state-clause-row : goal.returns-in_err-state-clause-row
+returns-in_err-state-clause-row c = refl
+
+pub returns-in_err-note-clause-count : goal.returns-in_err-note-clause-count
+returns-in_err-note-clause-count c = unmade _ _ c.from_residual-in_err-note.result c.from_residual-in_err-note.ensures.1
+
+pub returns-in_err-note-clause-known : goal.returns-in_err-note-clause-known
+returns-in_err-note-clause-known c = unmade _ _ c.from_residual-in_err-note.result c.from_residual-in_err-note.ensures.1
+
+pub returns-in_err-note-clause-spread : goal.returns-in_err-note-clause-spread
+returns-in_err-note-clause-spread c = unmade _ _ c.from_residual-in_err-note.result c.from_residual-in_err-note.ensures.1
+
+pub returns-in_err-note-clause-row : goal.returns-in_err-note-clause-row
+returns-in_err-note-clause-row c = refl
+
+pub returns-in_err-reach-clause-grows : goal.returns-in_err-reach-clause-grows
+returns-in_err-reach-clause-grows c = grows-same c.args.found.now
+
+pub returns-in_err-arrive-clause-grows : goal.returns-in_err-arrive-clause-grows
+returns-in_err-arrive-clause-grows c = grows-same c.args.found.now
+
+pub returns-in_err-state-clause-grows : goal.returns-in_err-state-clause-grows
+returns-in_err-state-clause-grows c = c.in_err-state.ensures.grows
+
+pub returns-in_err-note-clause-grows : goal.returns-in_err-note-clause-grows
+returns-in_err-note-clause-grows c = c.in_ok-state.ensures.grows
+
+pub returns-clause-grows : goal.returns-clause-grows
+returns-clause-grows c = c.in_ok-state.ensures.grows
+
+pub returns-clause-room : goal.returns-clause-room
+returns-clause-room c = c.in_ok-arrive.ensures.room
+
+pub returns-clause-row : goal.returns-clause-row
+returns-clause-row c = refl
+
+pub returns-in_err-reach-clause-room : goal.returns-in_err-reach-clause-room
+returns-in_err-reach-clause-room c = c.requires.room
+
+pub returns-in_err-arrive-clause-room : goal.returns-in_err-arrive-clause-room
+returns-in_err-arrive-clause-room c = c.in_err-arrive.ensures.room
+
+pub returns-in_err-state-clause-room : goal.returns-in_err-state-clause-room
+returns-in_err-state-clause-room c = c.in_ok-arrive.ensures.room
+
+pub returns-in_err-note-clause-room : goal.returns-in_err-note-clause-room
+returns-in_err-note-clause-room c = c.in_ok-arrive.ensures.room
+
+pub returns-in-Some-clause-grows : goal.returns-in-Some-clause-grows
+returns-in-Some-clause-grows c = grows-same c.args.found.now
+
+pub returns-in-Some-clause-room : goal.returns-in-Some-clause-room
+returns-in-Some-clause-room c = c.requires.room
+
+pub returns-in-Some-clause-row : goal.returns-in-Some-clause-row
+returns-in-Some-clause-row c = refl
+
+pub returns-then-not-reads-clause-grows : goal.returns-then-not-reads-clause-grows
+returns-then-not-reads-clause-grows c = grows-same c.args.found.now
+
+pub returns-then-not-reads-clause-room : goal.returns-then-not-reads-clause-room
+returns-then-not-reads-clause-room c = c.requires.room
+
+pub returns-then-not-reads-clause-row : goal.returns-then-not-reads-clause-row
+returns-then-not-reads-clause-row c = refl
+
+pub returns-then-not-reads-clause-count : goal.returns-then-not-reads-clause-count
+returns-then-not-reads-clause-count c = c.requires.count
+
+pub returns-then-not-reads-clause-known : goal.returns-then-not-reads-clause-known
+returns-then-not-reads-clause-known c = c.requires.known
+
+pub returns-then-not-reads-clause-spread : goal.returns-then-not-reads-clause-spread
+returns-then-not-reads-clause-spread c = c.requires.spread
+
+pub note-requires : goal.note-requires
+note-requires c = c.in_default.ensures.none
+
+pub reach-requires-clause-class : goal.reach-requires-clause-class
+reach-requires-clause-class c = omega (arith, c.requires.class, c.requires.count)
+
+pub index-byte-requires : goal.index-byte-requires
+index-byte-requires c = omega (arith, c.requires.class, c.args.job.now.alphabet.now.bytes.ok.0)
+
+pub invariant_of-result : goal.invariant_of-result
+invariant_of-result c = omega arith
+
+pub arrive-requires-clause-room : goal.arrive-requires-clause-room
+arrive-requires-clause-room c = c.requires.room
+
+pub arrive-requires-clause-whole : goal.arrive-requires-clause-whole
+arrive-requires-clause-whole c = record { names = c.requires.job.sound.in_range.names; start = c.requires.job.sound.in_range.start_anchored }
+
+pub find-requires : goal.find-requires
+find-requires c = tt
+
+pub kept-before-requires : goal.kept-before-requires
+kept-before-requires c = tt
+
+pub reads-requires : goal.reads-requires
+reads-requires c = tt
+
+pub state_of-requires : goal.state_of-requires
+state_of-requires c = tt

@@ -407,3 +407,86 @@ returns-clause-each g c =
     c.args.set.now c.bytes.set c.add_told-2.new.set (c.add_told-2.ensures last.0 last.1 (omega arith))
     (subst (λ e. FillsTo d.nfa v e c.args.set.now c.bytes.set) at_end c.bytes.invariant.fills) in
     fills.ends
+
+pub start_forward-requires : goal.start_forward-requires
+start_forward-requires g c = c.requires.fits
+
+pub is_dead-requires : goal.is_dead-requires
+is_dead-requires g c =
+    let v = c.args.input.now in
+    (first_key (g.A.Automaton.dfa c.args.dfa.now) v.anchor (byte_before v.haystack v.start), c.in-Ok.ensures.start)
+
+pub next_state-requires-clause-fits : goal.next_state-requires-clause-fits
+next_state-requires-clause-fits g c = c.bytes.invariant.fits
+
+pub next_state-requires-clause-held : goal.next_state-requires-clause-held
+next_state-requires-clause-held g c = (key_ahead (g.A.Automaton.dfa c.args.dfa.now) c.args.input.now c.bytes.at, c.bytes.invariant.going.1.held)
+
+pub last_state-requires-clause-fits : goal.last_state-requires-clause-fits
+last_state-requires-clause-fits g c = c.bytes.invariant.fits
+
+pub last_state-requires-clause-held : goal.last_state-requires-clause-held
+last_state-requires-clause-held g c = (key_ahead (g.A.Automaton.dfa c.args.dfa.now) c.args.input.now c.bytes.at, c.bytes.invariant.going.1.held)
+
+pub returns-in-Err-clause-fits : goal.returns-in-Err-clause-fits
+returns-in-Err-clause-fits g c = c.in-Err.ensures.fits
+
+pub returns-in-Err-next_state-clause-fits : goal.returns-in-Err-next_state-clause-fits
+returns-in-Err-next_state-clause-fits g c = c.in-Err-next_state.ensures.fits
+
+pub returns-in-Err-last_state-clause-fits : goal.returns-in-Err-last_state-clause-fits
+returns-in-Err-last_state-clause-fits g c = c.in-Err-last_state.ensures.fits
+
+pub returns-clause-fits : goal.returns-clause-fits
+returns-clause-fits g c = c.in-Ok-last_state.ensures.fits
+
+pub returns-clause-err : goal.returns-clause-err
+returns-clause-err g c = tt
+
+pub returns-then-is_dead-clause-fits : goal.returns-then-is_dead-clause-fits
+returns-then-is_dead-clause-fits g c = c.in-Ok.ensures.fits
+
+pub returns-then-is_dead-2-clause-fits : goal.returns-then-is_dead-2-clause-fits
+returns-then-is_dead-2-clause-fits g c = c.in-Ok-next_state.ensures.fits
+
+pub returns-then-is_full-clause-fits : goal.returns-then-is_full-clause-fits
+returns-then-is_full-clause-fits g c = c.in-Ok-next_state.ensures.fits
+
+pub returns-then-is_dead-clause-err : goal.returns-then-is_dead-clause-err
+returns-then-is_dead-clause-err g c = tt
+
+pub returns-then-is_dead-2-clause-err : goal.returns-then-is_dead-2-clause-err
+returns-then-is_dead-2-clause-err g c = tt
+
+pub returns-then-is_full-clause-err : goal.returns-then-is_full-clause-err
+returns-then-is_full-clause-err g c = tt
+
+pub bytes-smaller : goal.bytes-smaller
+bytes-smaller g c = omega (arith, c.bytes-test.true, c.end-end.ensures.value)
+
+pub bytes-smaller-then-not-is_special : goal.bytes-smaller-then-not-is_special
+bytes-smaller-then-not-is_special g c = omega (arith, c.bytes-test.true, c.end-end.ensures.value)
+
+pub bounds-haystack-at : goal.bounds-haystack-at
+bounds-haystack-at g c =
+    let whole : length c.haystack-haystack.result.now ≡ length c.args.input.now.haystack = ap length c.haystack-haystack.ensures.value in
+    omega (arith, whole, c.haystack-haystack.ensures.spanned.end, c.end-end.ensures.value, c.bytes-test.true)
+
+pub is_permitted_at-may-requires : goal.is_permitted_at-may-requires
+is_permitted_at-may-requires g c =
+    let whole : length c.haystack-haystack.result.now ≡ length c.args.input.now.haystack = ap length c.haystack-haystack.ensures.value in
+    omega (arith, whole, c.haystack-haystack.ensures.spanned.end, c.end-end.ensures.value, c.bytes-test.true)
+
+pub is_permitted_at-may_end-requires : goal.is_permitted_at-may_end-requires
+is_permitted_at-may_end-requires g c =
+    let whole : length c.haystack-haystack.result.now ≡ length c.args.input.now.haystack = ap length c.haystack-haystack.ensures.value in
+    omega (arith, whole, c.haystack-haystack.ensures.spanned.end, c.end-end.ensures.value)
+
+pub returns-in-Err-clause-each : goal.returns-in-Err-clause-each
+returns-in-Err-clause-each g c = tt
+
+pub returns-in-Err-next_state-clause-each : goal.returns-in-Err-next_state-clause-each
+returns-in-Err-next_state-clause-each g c = tt
+
+pub returns-in-Err-last_state-clause-each : goal.returns-in-Err-last_state-clause-each
+returns-in-Err-last_state-clause-each g c = tt

@@ -1,3 +1,4 @@
+use Rattle.rx_model.specs.Search.{is_anchored}
 use Rattle.std.proofs.Common.{◌≡◌, ◌+◌, ◌≤◌, ◌<◌, length, sym, ◌∙◌, ap, subst, arith, rules}
 use Rattle.rx_search.specs.Input.{InputValue, from_place}
 use Rattle.rx_determinize.specs.Permitted.{Progress}
@@ -292,3 +293,74 @@ returns-clause-answer g c = λ r p ordered.
     let end : c.starts.rest.end ≡ v.end = ap (λ (w : InputValue). w.end) i.rest in
     let past : c.starts.rest.end < c.starts.rest.start = search rules in
     by-past d needles v spanned free from (omega arith) i.stands r p ordered
+
+pub returns-clause-err : goal.returns-clause-err
+returns-clause-err g c = tt
+
+pub returns-in_default-clause-err : goal.returns-in_default-clause-err
+returns-in_default-clause-err g c = tt
+
+pub returns-in_default-refused-clause-err : goal.returns-in_default-refused-clause-err
+returns-in_default-refused-clause-err g c = tt
+
+pub returns-clause-in_range : goal.returns-clause-in_range
+returns-clause-in_range g c = tt
+
+pub returns-in_default-clause-in_range : goal.returns-in_default-clause-in_range
+returns-in_default-clause-in_range g c = tt
+
+pub returns-in_default-refused-clause-in_range : goal.returns-in_default-refused-clause-in_range
+returns-in_default-refused-clause-in_range g c = tt
+
+pub returns-clause-within : goal.returns-clause-within
+returns-clause-within g c = tt
+
+pub returns-in_default-clause-within : goal.returns-in_default-clause-within
+returns-in_default-clause-within g c = tt
+
+pub returns-in_default-refused-clause-within : goal.returns-in_default-refused-clause-within
+returns-in_default-refused-clause-within g c = tt
+
+pub returns-in-Some-best-clause-err : goal.returns-in-Some-best-clause-err
+returns-in-Some-best-clause-err g c = tt
+
+pub returns-in-Err-clause-in_range : goal.returns-in-Err-clause-in_range
+returns-in-Err-clause-in_range g c = tt
+
+pub returns-in-Err-clause-within : goal.returns-in-Err-clause-within
+returns-in-Err-clause-within g c = tt
+
+pub returns-in-Err-clause-answer : goal.returns-in-Err-clause-answer
+returns-in-Err-clause-answer g c = λ r p ordered. tt
+
+pub returns-clause-fits : goal.returns-clause-fits
+returns-clause-fits g c = c.starts.invariant.fits
+
+pub returns-in_default-clause-fits : goal.returns-in_default-clause-fits
+returns-in_default-clause-fits g c = c.starts.invariant.fits
+
+pub returns-in-Some-best-clause-fits : goal.returns-in-Some-best-clause-fits
+returns-in-Some-best-clause-fits g c = c.in-Ok.ensures.fits
+
+pub returns-in_default-refused-clause-fits : goal.returns-in_default-refused-clause-fits
+returns-in_default-refused-clause-fits g c = c.in-Ok.ensures.fits
+
+pub returns-in-Err-clause-fits : goal.returns-in-Err-clause-fits
+returns-in-Err-clause-fits g c = c.in-Err.ensures.fits
+
+pub run_course-requires-clause-fits : goal.run_course-requires-clause-fits
+run_course-requires-clause-fits g c = c.starts.invariant.fits
+
+pub run_course-requires-clause-forward : goal.run_course-requires-clause-forward
+run_course-requires-clause-forward g c = c.requires.forward
+
+pub run_course-requires-clause-leftmost : goal.run_course-requires-clause-leftmost
+run_course-requires-clause-leftmost g c = c.requires.leftmost
+
+pub run_course-requires-clause-in_order : goal.run_course-requires-clause-in_order
+run_course-requires-clause-in_order g c =
+    subst (λ (w : InputValue). w.start ≤ w.end) (sym c.set_start.ensures) c.in-Some.ensures.1
+
+pub run_course-requires-clause-free : goal.run_course-requires-clause-free
+run_course-requires-clause-free g c =
+    ap (λ (w : InputValue). is_anchored w.anchor) (c.set_start.ensures ∙ ap (from_place c.in-Some.candidate) c.starts.invariant.rest) ∙ c.requires.free

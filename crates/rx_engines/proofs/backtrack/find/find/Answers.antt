@@ -122,3 +122,54 @@ pub returns-clause-slots : goal.returns-clause-slots
 returns-clause-slots c =
     let is = sym c.loop-place.invariant.none_yet ∙ next-over c.args.search.now c.loop-place.place (omega arith) in
     rw is tt
+
+pub attempt-requires-clause-dead : goal.attempt-requires-clause-dead
+attempt-requires-clause-dead c = c.loop-place.invariant.dead
+
+pub attempt-requires-clause-frames : goal.attempt-requires-clause-frames
+attempt-requires-clause-frames c = c.loop-place.invariant.frames
+
+pub attempt-requires-clause-room : goal.attempt-requires-clause-room
+attempt-requires-clause-room c = omega arith
+
+pub attempt-requires-clause-search : goal.attempt-requires-clause-search
+attempt-requires-clause-search c = c.requires.search
+
+pub attempt-requires-clause-small : goal.attempt-requires-clause-small
+attempt-requires-clause-small c = c.requires.small
+
+pub clear-requires : goal.clear-requires
+clear-requires c = tt
+
+pub clear-requires-2 : goal.clear-requires-2
+clear-requires-2 c = tt
+
+pub is_allowed-requires : goal.is_allowed-requires
+is_allowed-requires c = omega arith
+
+pub next_start-requires : goal.next_start-requires
+next_start-requires c = omega arith
+
+pub offset-requires : goal.offset-requires
+offset-requires c = tt
+
+pub pattern-requires : goal.pattern-requires
+pattern-requires c = tt
+
+pub returns-clause-room : goal.returns-clause-room
+returns-clause-room c = c.loop-place.invariant.room
+
+pub returns-clause-stack : goal.returns-clause-stack
+returns-clause-stack c = c.loop-place.invariant.stack
+
+pub returns-in_default-clause-room : goal.returns-in_default-clause-room
+returns-in_default-clause-room c = c.loop-place.invariant.room
+
+pub returns-in_default-clause-stack : goal.returns-in_default-clause-stack
+returns-in_default-clause-stack c = c.loop-place.invariant.stack
+
+pub returns-then-search-start-clause-room : goal.returns-then-search-start-clause-room
+returns-then-search-start-clause-room c = c.loop-place.invariant.room
+
+pub returns-then-search-start-clause-stack : goal.returns-then-search-start-clause-stack
+returns-then-search-start-clause-stack c = c.loop-place.invariant.stack

@@ -80,3 +80,51 @@ loop-frame-preserved c =
 pub returns-clause-closed : goal.returns-clause-closed
 returns-clause-closed c end later goal le stable w =
     Waits-over (rw (c.in_default.ensures.none.0) at (c.loop-frame.invariant.waits end later goal le stable w))
+
+pub follow-requires-clause-from : goal.follow-requires-clause-from
+follow-requires-clause-from c = c.requires.state
+
+pub follow-requires-clause-place : goal.follow-requires-clause-place
+follow-requires-clause-place c = c.requires.place
+
+pub follow-requires-clause-search : goal.follow-requires-clause-search
+follow-requires-clause-search c = c.requires.search
+
+pub follow-requires-clause-set : goal.follow-requires-clause-set
+follow-requires-clause-set c = c.requires.set
+
+pub follow-requires-clause-table : goal.follow-requires-clause-table
+follow-requires-clause-table c = c.requires.table
+
+pub follow-requires-clause-width : goal.follow-requires-clause-width
+follow-requires-clause-width c = c.requires.width
+
+pub follow-requires-in-Explore-clause-place : goal.follow-requires-in-Explore-clause-place
+follow-requires-in-Explore-clause-place c = c.requires.place
+
+pub follow-requires-in-Explore-clause-search : goal.follow-requires-in-Explore-clause-search
+follow-requires-in-Explore-clause-search c = c.requires.search
+
+pub follow-requires-in-Explore-clause-set : goal.follow-requires-in-Explore-clause-set
+follow-requires-in-Explore-clause-set c = c.loop-frame.invariant.room
+
+pub follow-requires-in-Explore-clause-table : goal.follow-requires-in-Explore-clause-table
+follow-requires-in-Explore-clause-table c = c.loop-frame.invariant.rows
+
+pub pop-requires : goal.pop-requires
+pop-requires c = tt
+
+pub returns-clause-capacity : goal.returns-clause-capacity
+returns-clause-capacity c = c.loop-frame.invariant.capacity
+
+pub returns-clause-kept : goal.returns-clause-kept
+returns-clause-kept c = c.loop-frame.invariant.kept
+
+pub returns-clause-slots : goal.returns-clause-slots
+returns-clause-slots c = c.loop-frame.invariant.slots_len
+
+pub returns-clause-width : goal.returns-clause-width
+returns-clause-width c = c.loop-frame.invariant.width
+
+pub write-requires : goal.write-requires
+write-requires c = tt

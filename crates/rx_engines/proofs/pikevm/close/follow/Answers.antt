@@ -134,3 +134,54 @@ returns-clause-followed c end later goal le stable w =
     let seen = not-false _ (sym c.loop-state-test.false ∙ c.insert.ensures.new) in
     let same = rw c.loop-state-test.false at c.insert.ensures.after in
     rw same (Waits-passed stable (c.loop-state.invariant.followed end later goal le stable w) seen)
+
+pub as_slice-requires : goal.as_slice-requires
+as_slice-requires c = tt
+
+pub insert-requires : goal.insert-requires
+insert-requires c = omega arith
+
+pub returns-clause-inside : goal.returns-clause-inside
+returns-clause-inside c = c.loop-state.invariant.inside
+
+pub returns-clause-kept : goal.returns-clause-kept
+returns-clause-kept c = c.loop-state.invariant.kept
+
+pub returns-clause-slots : goal.returns-clause-slots
+returns-clause-slots c = c.loop-state.invariant.slots_len
+
+pub returns-clause-stack : goal.returns-clause-stack
+returns-clause-stack c = c.loop-state.invariant.stack_room
+
+pub returns-clause-table : goal.returns-clause-table
+returns-clause-table c = c.loop-state.invariant.rows
+
+pub returns-clause-width : goal.returns-clause-width
+returns-clause-width c = c.loop-state.invariant.width
+
+pub returns-in-Back-clause-inside : goal.returns-in-Back-clause-inside
+returns-in-Back-clause-inside c = c.in-Back.ensures.inside
+
+pub returns-in-Back-clause-table : goal.returns-in-Back-clause-table
+returns-in-Back-clause-table c = c.loop-state.invariant.rows
+
+pub returns-in-Back-clause-width : goal.returns-in-Back-clause-width
+returns-in-Back-clause-width c = c.loop-state.invariant.width
+
+pub returns-in-Stop-clause-inside : goal.returns-in-Stop-clause-inside
+returns-in-Stop-clause-inside c = c.in-Stop.ensures.inside
+
+pub set-requires-clause-state : goal.set-requires-clause-state
+set-requires-clause-state c = omega arith
+
+pub visit-requires-clause-inside : goal.visit-requires-clause-inside
+visit-requires-clause-inside c = c.loop-state.invariant.inside
+
+pub visit-requires-clause-place : goal.visit-requires-clause-place
+visit-requires-clause-place c = c.requires.place
+
+pub visit-requires-clause-search : goal.visit-requires-clause-search
+visit-requires-clause-search c = c.requires.search
+
+pub visit-requires-clause-state : goal.visit-requires-clause-state
+visit-requires-clause-state c = c.loop-state.invariant.state

@@ -136,3 +136,81 @@ arrive-requires-clause-place c =
     c.in-To.ensures).2 in
     let within = c.requires.search.end in
     omega arith
+
+pub act-requires : goal.act-requires
+act-requires c = tt
+
+pub arrive-requires-clause-empty : goal.arrive-requires-clause-empty
+arrive-requires-clause-empty c = c.loop-k.invariant.empty
+
+pub arrive-requires-clause-search : goal.arrive-requires-clause-search
+arrive-requires-clause-search c = c.requires.search
+
+pub arrive-requires-clause-set : goal.arrive-requires-clause-set
+arrive-requires-clause-set c = c.loop-k.invariant.room
+
+pub arrive-requires-clause-stack : goal.arrive-requires-clause-stack
+arrive-requires-clause-stack c = omega arith
+
+pub arrive-requires-clause-table : goal.arrive-requires-clause-table
+arrive-requires-clause-table c = c.loop-k.invariant.rows
+
+pub as_usize-requires : goal.as_usize-requires
+as_usize-requires c = tt
+
+pub bounds-states-as_usize : goal.bounds-states-as_usize
+bounds-states-as_usize c = omega arith
+
+pub byte_at-byte-requires : goal.byte_at-byte-requires
+byte_at-byte-requires c = c.requires.search.end
+
+pub clear-requires : goal.clear-requires
+clear-requires c = tt
+
+pub get-state-requires : goal.get-state-requires
+get-state-requires c = omega arith
+
+pub len-k-end-requires : goal.len-k-end-requires
+len-k-end-requires c = tt
+
+pub loop-k-smaller : goal.loop-k-smaller
+loop-k-smaller c = omega arith
+
+pub returns-clause-capacity : goal.returns-clause-capacity
+returns-clause-capacity c = c.loop-k.invariant.capacity
+
+pub returns-clause-empty : goal.returns-clause-empty
+returns-clause-empty c = c.loop-k.invariant.empty
+
+pub returns-clause-stack : goal.returns-clause-stack
+returns-clause-stack c = c.loop-k.invariant.stack_room
+
+pub returns-clause-width : goal.returns-clause-width
+returns-clause-width c = c.loop-k.invariant.width
+
+pub returns-in-Stop-clause-capacity : goal.returns-in-Stop-clause-capacity
+returns-in-Stop-clause-capacity c = c.loop-k.invariant.capacity
+
+pub returns-in-Stop-clause-empty : goal.returns-in-Stop-clause-empty
+returns-in-Stop-clause-empty c = c.loop-k.invariant.empty
+
+pub returns-in-Stop-clause-kept : goal.returns-in-Stop-clause-kept
+returns-in-Stop-clause-kept c = tt
+
+pub returns-in-Stop-clause-stack : goal.returns-in-Stop-clause-stack
+returns-in-Stop-clause-stack c = c.loop-k.invariant.stack_room
+
+pub returns-in-Stop-clause-width : goal.returns-in-Stop-clause-width
+returns-in-Stop-clause-width c = c.loop-k.invariant.width
+
+pub slots-requires : goal.slots-requires
+slots-requires c = omega arith
+
+pub slots-slots-requires : goal.slots-slots-requires
+slots-slots-requires c = omega arith
+
+pub start-start-requires : goal.start-start-requires
+start-start-requires c = omega arith
+
+pub start-start-requires-in-To : goal.start-start-requires-in-To
+start-start-requires-in-To c = omega arith

@@ -35,6 +35,7 @@ use Rattle.rx_nfa.proofs.lemmas.parts.SlotLemmas.{Built-group}
 use Rattle.rx_nfa.proofs.lemmas.parts.ChoiceLemmas.{BuiltEach, Built-choice}
 use Rattle.rx_nfa.proofs.lemmas.parts.CompileLemmas.{choice-names, choice-within, choice-own, choice-sorted, choice-silent}
 use Rattle.rx_nfa.proofs.lemmas.parts.CompileLemmas.{patched-length, loop-closed, optional-closed, option-closed, copy-more, tail-star}
+use Rattle.rx_nfa.proofs.lemmas.parts.UnmadeLemmas.{unmade}
 use Rattle.rx_nfa.proofs.compiler.expression.+compile.Goals as goal
 
 pub compile-compile_repetition-requires : goal.compile-compile_repetition-requires
@@ -787,3 +788,129 @@ compile_unbounded-returns-clause-inside t c =
     let written = ap (λ (d : Draft). length d.states) c.patch.ensures in
     let same = patched-length c.compile_loop-2.new.builder c.in_ok-choice.choice c.in_ok-state.state in
     omega arith
+
+pub compile_capture-returns-in_err-close-clause-built : goal.compile_capture-returns-in_err-close-clause-built
+compile_capture-returns-in_err-close-clause-built t c = unmade _ c.from_residual.result c.from_residual.ensures.0
+
+pub compile_capture-returns-in_err-close-clause-inside : goal.compile_capture-returns-in_err-close-clause-inside
+compile_capture-returns-in_err-close-clause-inside t c = unmade _ c.from_residual.result c.from_residual.ensures.0
+
+pub compile_capture-returns-in_err-close-clause-count : goal.compile_capture-returns-in_err-close-clause-count
+compile_capture-returns-in_err-close-clause-count t c = unmade _ c.from_residual.result c.from_residual.ensures.0
+
+pub compile_capture-returns-in_err-body-clause-built : goal.compile_capture-returns-in_err-body-clause-built
+compile_capture-returns-in_err-body-clause-built t c = unmade _ c.from_residual-in_err-body.result c.from_residual-in_err-body.ensures.0
+
+pub compile_capture-returns-in_err-body-clause-inside : goal.compile_capture-returns-in_err-body-clause-inside
+compile_capture-returns-in_err-body-clause-inside t c = unmade _ c.from_residual-in_err-body.result c.from_residual-in_err-body.ensures.0
+
+pub compile_capture-returns-in_err-body-clause-count : goal.compile_capture-returns-in_err-body-clause-count
+compile_capture-returns-in_err-body-clause-count t c = unmade _ c.from_residual-in_err-body.result c.from_residual-in_err-body.ensures.0
+
+pub compile_concat-returns-in_err-start-clause-built : goal.compile_concat-returns-in_err-start-clause-built
+compile_concat-returns-in_err-start-clause-built t c = unmade _ c.from_residual.result c.from_residual.ensures.0
+
+pub compile_concat-returns-in_err-start-clause-inside : goal.compile_concat-returns-in_err-start-clause-inside
+compile_concat-returns-in_err-start-clause-inside t c = unmade _ c.from_residual.result c.from_residual.ensures.0
+
+pub compile_concat-returns-in_err-start-clause-count : goal.compile_concat-returns-in_err-start-clause-count
+compile_concat-returns-in_err-start-clause-count t c = unmade _ c.from_residual.result c.from_residual.ensures.0
+
+pub compile_alternation-returns-in_err-start-clause-built : goal.compile_alternation-returns-in_err-start-clause-built
+compile_alternation-returns-in_err-start-clause-built t c = unmade _ c.from_residual.result c.from_residual.ensures.0
+
+pub compile_alternation-returns-in_err-start-clause-inside : goal.compile_alternation-returns-in_err-start-clause-inside
+compile_alternation-returns-in_err-start-clause-inside t c = unmade _ c.from_residual.result c.from_residual.ensures.0
+
+pub compile_alternation-returns-in_err-start-clause-count : goal.compile_alternation-returns-in_err-start-clause-count
+compile_alternation-returns-in_err-start-clause-count t c = unmade _ c.from_residual.result c.from_residual.ensures.0
+
+pub compile_alternation-returns-in_err-push-clause-built : goal.compile_alternation-returns-in_err-push-clause-built
+compile_alternation-returns-in_err-push-clause-built t c = unmade _ c.from_residual-in_err-push.result c.from_residual-in_err-push.ensures.0
+
+pub compile_alternation-returns-in_err-push-clause-inside : goal.compile_alternation-returns-in_err-push-clause-inside
+compile_alternation-returns-in_err-push-clause-inside t c = unmade _ c.from_residual-in_err-push.result c.from_residual-in_err-push.ensures.0
+
+pub compile_alternation-returns-in_err-push-clause-count : goal.compile_alternation-returns-in_err-push-clause-count
+compile_alternation-returns-in_err-push-clause-count t c = unmade _ c.from_residual-in_err-push.result c.from_residual-in_err-push.ensures.0
+
+pub compile_repetition-returns-in_err-start-clause-built : goal.compile_repetition-returns-in_err-start-clause-built
+compile_repetition-returns-in_err-start-clause-built t c = unmade _ c.from_residual.result c.from_residual.ensures.0
+
+pub compile_repetition-returns-in_err-start-clause-inside : goal.compile_repetition-returns-in_err-start-clause-inside
+compile_repetition-returns-in_err-start-clause-inside t c = unmade _ c.from_residual.result c.from_residual.ensures.0
+
+pub compile_repetition-returns-in_err-start-clause-count : goal.compile_repetition-returns-in_err-start-clause-count
+compile_repetition-returns-in_err-start-clause-count t c = unmade _ c.from_residual.result c.from_residual.ensures.0
+
+pub compile_repetition-returns-in_err-start-2-clause-built : goal.compile_repetition-returns-in_err-start-2-clause-built
+compile_repetition-returns-in_err-start-2-clause-built t c = unmade _ c.from_residual-in_err-start-2.result c.from_residual-in_err-start-2.ensures.0
+
+pub compile_repetition-returns-in_err-start-2-clause-inside : goal.compile_repetition-returns-in_err-start-2-clause-inside
+compile_repetition-returns-in_err-start-2-clause-inside t c = unmade _ c.from_residual-in_err-start-2.result c.from_residual-in_err-start-2.ensures.0
+
+pub compile_repetition-returns-in_err-start-2-clause-count : goal.compile_repetition-returns-in_err-start-2-clause-count
+compile_repetition-returns-in_err-start-2-clause-count t c = unmade _ c.from_residual-in_err-start-2.result c.from_residual-in_err-start-2.ensures.0
+
+pub compile_loop-returns-in_err-choice-clause-from_choice : goal.compile_loop-returns-in_err-choice-clause-from_choice
+compile_loop-returns-in_err-choice-clause-from_choice t c = unmade _ c.from_residual.result c.from_residual.ensures.0
+
+pub compile_loop-returns-in_err-choice-clause-from_body : goal.compile_loop-returns-in_err-choice-clause-from_body
+compile_loop-returns-in_err-choice-clause-from_body t c = unmade _ c.from_residual.result c.from_residual.ensures.0
+
+pub compile_loop-returns-in_err-choice-clause-inside : goal.compile_loop-returns-in_err-choice-clause-inside
+compile_loop-returns-in_err-choice-clause-inside t c = unmade _ c.from_residual.result c.from_residual.ensures.0
+
+pub compile_loop-returns-in_err-choice-clause-count : goal.compile_loop-returns-in_err-choice-clause-count
+compile_loop-returns-in_err-choice-clause-count t c = unmade _ c.from_residual.result c.from_residual.ensures.0
+
+pub compile_loop-returns-in_err-body-clause-from_choice : goal.compile_loop-returns-in_err-body-clause-from_choice
+compile_loop-returns-in_err-body-clause-from_choice t c = unmade _ c.from_residual-in_err-body.result c.from_residual-in_err-body.ensures.0
+
+pub compile_loop-returns-in_err-body-clause-from_body : goal.compile_loop-returns-in_err-body-clause-from_body
+compile_loop-returns-in_err-body-clause-from_body t c = unmade _ c.from_residual-in_err-body.result c.from_residual-in_err-body.ensures.0
+
+pub compile_loop-returns-in_err-body-clause-inside : goal.compile_loop-returns-in_err-body-clause-inside
+compile_loop-returns-in_err-body-clause-inside t c = unmade _ c.from_residual-in_err-body.result c.from_residual-in_err-body.ensures.0
+
+pub compile_loop-returns-in_err-body-clause-count : goal.compile_loop-returns-in_err-body-clause-count
+compile_loop-returns-in_err-body-clause-count t c = unmade _ c.from_residual-in_err-body.result c.from_residual-in_err-body.ensures.0
+
+pub compile_loop-returns-in_err-state-clause-from_choice : goal.compile_loop-returns-in_err-state-clause-from_choice
+compile_loop-returns-in_err-state-clause-from_choice t c = unmade _ c.from_residual-in_err-state.result c.from_residual-in_err-state.ensures.0
+
+pub compile_loop-returns-in_err-state-clause-from_body : goal.compile_loop-returns-in_err-state-clause-from_body
+compile_loop-returns-in_err-state-clause-from_body t c = unmade _ c.from_residual-in_err-state.result c.from_residual-in_err-state.ensures.0
+
+pub compile_loop-returns-in_err-state-clause-inside : goal.compile_loop-returns-in_err-state-clause-inside
+compile_loop-returns-in_err-state-clause-inside t c = unmade _ c.from_residual-in_err-state.result c.from_residual-in_err-state.ensures.0
+
+pub compile_loop-returns-in_err-state-clause-count : goal.compile_loop-returns-in_err-state-clause-count
+compile_loop-returns-in_err-state-clause-count t c = unmade _ c.from_residual-in_err-state.result c.from_residual-in_err-state.ensures.0
+
+pub compile_options-returns-in_err-choice-clause-built : goal.compile_options-returns-in_err-choice-clause-built
+compile_options-returns-in_err-choice-clause-built t c = unmade _ c.from_residual.result c.from_residual.ensures.0
+
+pub compile_options-returns-in_err-choice-clause-inside : goal.compile_options-returns-in_err-choice-clause-inside
+compile_options-returns-in_err-choice-clause-inside t c = unmade _ c.from_residual.result c.from_residual.ensures.0
+
+pub compile_options-returns-in_err-choice-clause-count : goal.compile_options-returns-in_err-choice-clause-count
+compile_options-returns-in_err-choice-clause-count t c = unmade _ c.from_residual.result c.from_residual.ensures.0
+
+pub compile_options-returns-in_err-body-clause-built : goal.compile_options-returns-in_err-body-clause-built
+compile_options-returns-in_err-body-clause-built t c = unmade _ c.from_residual-in_err-body.result c.from_residual-in_err-body.ensures.0
+
+pub compile_options-returns-in_err-body-clause-inside : goal.compile_options-returns-in_err-body-clause-inside
+compile_options-returns-in_err-body-clause-inside t c = unmade _ c.from_residual-in_err-body.result c.from_residual-in_err-body.ensures.0
+
+pub compile_options-returns-in_err-body-clause-count : goal.compile_options-returns-in_err-body-clause-count
+compile_options-returns-in_err-body-clause-count t c = unmade _ c.from_residual-in_err-body.result c.from_residual-in_err-body.ensures.0
+
+pub compile_options-returns-in_err-option-clause-built : goal.compile_options-returns-in_err-option-clause-built
+compile_options-returns-in_err-option-clause-built t c = unmade _ c.from_residual-in_err-option.result c.from_residual-in_err-option.ensures.0
+
+pub compile_options-returns-in_err-option-clause-inside : goal.compile_options-returns-in_err-option-clause-inside
+compile_options-returns-in_err-option-clause-inside t c = unmade _ c.from_residual-in_err-option.result c.from_residual-in_err-option.ensures.0
+
+pub compile_options-returns-in_err-option-clause-count : goal.compile_options-returns-in_err-option-clause-count
+compile_options-returns-in_err-option-clause-count t c = unmade _ c.from_residual-in_err-option.result c.from_residual-in_err-option.ensures.0

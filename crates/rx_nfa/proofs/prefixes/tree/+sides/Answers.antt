@@ -7,6 +7,7 @@ use Rattle.rx_nfa.specs.Prefixes.{IsWord, rests}
 use Rattle.rx_nfa.specs.Row.{Ascends}
 use Rattle.rx_nfa.specs.Trees.{IsTargetOf, ReadsByTree, LeadsByTree}
 use Rattle.rx_nfa.proofs.lemmas.prefixes.GrowLemmas.{Grown-same, Grown-trans, reads-both, reads-grown, reads-nothing, rests-words, row-reads, reader-branch, led-targets, led-more, map-more, map-split, sub-words, between-none}
+use Rattle.rx_nfa.proofs.lemmas.parts.UnmadeLemmas.{unmade}
 use Rattle.rx_nfa.proofs.prefixes.tree.+sides.Goals as goal
 
 pub chunk-returns-then-levels-gt0-clause-reads : goal.chunk-returns-then-levels-gt0-clause-reads
@@ -164,3 +165,221 @@ sides-returns-clause-reads t c =
 
 pub chunk-branches-requires : goal.chunk-branches-requires
 chunk-branches-requires t c = (omega arith, (c.requires.tree, (c.requires.words, c.requires.long (omega arith))))
+
+pub sides-returns-in_err-from-clause-tree : goal.sides-returns-in_err-from-clause-tree
+sides-returns-in_err-from-clause-tree t c = unmade _ c.from_residual.result c.from_residual.ensures.0
+
+pub sides-returns-in_err-from-clause-grown : goal.sides-returns-in_err-from-clause-grown
+sides-returns-in_err-from-clause-grown t c = unmade _ c.from_residual.result c.from_residual.ensures.0
+
+pub sides-returns-in_err-from-clause-reads : goal.sides-returns-in_err-from-clause-reads
+sides-returns-in_err-from-clause-reads t c = unmade _ c.from_residual.result c.from_residual.ensures.0
+
+pub sides-returns-in_err-chunk-clause-tree : goal.sides-returns-in_err-chunk-clause-tree
+sides-returns-in_err-chunk-clause-tree t c = unmade _ c.from_residual-in_err-chunk.result c.from_residual-in_err-chunk.ensures.0
+
+pub sides-returns-in_err-chunk-clause-grown : goal.sides-returns-in_err-chunk-clause-grown
+sides-returns-in_err-chunk-clause-grown t c = unmade _ c.from_residual-in_err-chunk.result c.from_residual-in_err-chunk.ensures.0
+
+pub sides-returns-in_err-chunk-clause-reads : goal.sides-returns-in_err-chunk-clause-reads
+sides-returns-in_err-chunk-clause-reads t c = unmade _ c.from_residual-in_err-chunk.result c.from_residual-in_err-chunk.ensures.0
+
+pub end_chunk-returns-in_err-chunk-clause-tree : goal.end_chunk-returns-in_err-chunk-clause-tree
+end_chunk-returns-in_err-chunk-clause-tree t c = unmade _ c.from_residual.result c.from_residual.ensures.0
+
+pub end_chunk-returns-in_err-chunk-clause-grown : goal.end_chunk-returns-in_err-chunk-clause-grown
+end_chunk-returns-in_err-chunk-clause-grown t c = unmade _ c.from_residual.result c.from_residual.ensures.0
+
+pub end_chunk-returns-in_err-chunk-clause-reads : goal.end_chunk-returns-in_err-chunk-clause-reads
+end_chunk-returns-in_err-chunk-clause-reads t c = unmade _ c.from_residual.result c.from_residual.ensures.0
+
+pub end_chunk-returns-in_err-chunk-clause-upto : goal.end_chunk-returns-in_err-chunk-clause-upto
+end_chunk-returns-in_err-chunk-clause-upto t c = unmade _ c.from_residual.result c.from_residual.ensures.0
+
+pub end_chunk-returns-in_err-chunk-clause-long : goal.end_chunk-returns-in_err-chunk-clause-long
+end_chunk-returns-in_err-chunk-clause-long t c = unmade _ c.from_residual.result c.from_residual.ensures.0
+
+pub end_chunk-returns-in_err-chunk-2-clause-tree : goal.end_chunk-returns-in_err-chunk-2-clause-tree
+end_chunk-returns-in_err-chunk-2-clause-tree t c = unmade _ c.from_residual-in_err-chunk-2.result c.from_residual-in_err-chunk-2.ensures.0
+
+pub end_chunk-returns-in_err-chunk-2-clause-grown : goal.end_chunk-returns-in_err-chunk-2-clause-grown
+end_chunk-returns-in_err-chunk-2-clause-grown t c = unmade _ c.from_residual-in_err-chunk-2.result c.from_residual-in_err-chunk-2.ensures.0
+
+pub end_chunk-returns-in_err-chunk-2-clause-reads : goal.end_chunk-returns-in_err-chunk-2-clause-reads
+end_chunk-returns-in_err-chunk-2-clause-reads t c = unmade _ c.from_residual-in_err-chunk-2.result c.from_residual-in_err-chunk-2.ensures.0
+
+pub end_chunk-returns-in_err-chunk-2-clause-upto : goal.end_chunk-returns-in_err-chunk-2-clause-upto
+end_chunk-returns-in_err-chunk-2-clause-upto t c = unmade _ c.from_residual-in_err-chunk-2.result c.from_residual-in_err-chunk-2.ensures.0
+
+pub end_chunk-returns-in_err-chunk-2-clause-long : goal.end_chunk-returns-in_err-chunk-2-clause-long
+end_chunk-returns-in_err-chunk-2-clause-long t c = unmade _ c.from_residual-in_err-chunk-2.result c.from_residual-in_err-chunk-2.ensures.0
+
+pub chunk-returns-in_err-start-clause-tree : goal.chunk-returns-in_err-start-clause-tree
+chunk-returns-in_err-start-clause-tree t c = unmade _ c.from_residual.result c.from_residual.ensures.0
+
+pub chunk-returns-in_err-start-clause-grown : goal.chunk-returns-in_err-start-clause-grown
+chunk-returns-in_err-start-clause-grown t c = unmade _ c.from_residual.result c.from_residual.ensures.0
+
+pub chunk-returns-in_err-start-clause-reads : goal.chunk-returns-in_err-start-clause-reads
+chunk-returns-in_err-start-clause-reads t c = unmade _ c.from_residual.result c.from_residual.ensures.0
+
+pub chunk-returns-in_err-push-clause-tree : goal.chunk-returns-in_err-push-clause-tree
+chunk-returns-in_err-push-clause-tree t c = unmade _ c.from_residual-in_err-push.result c.from_residual-in_err-push.ensures.0
+
+pub chunk-returns-in_err-push-clause-grown : goal.chunk-returns-in_err-push-clause-grown
+chunk-returns-in_err-push-clause-grown t c = unmade _ c.from_residual-in_err-push.result c.from_residual-in_err-push.ensures.0
+
+pub chunk-returns-in_err-push-clause-reads : goal.chunk-returns-in_err-push-clause-reads
+chunk-returns-in_err-push-clause-reads t c = unmade _ c.from_residual-in_err-push.result c.from_residual-in_err-push.ensures.0
+
+pub chunk-returns-in_err-start-2-clause-tree : goal.chunk-returns-in_err-start-2-clause-tree
+chunk-returns-in_err-start-2-clause-tree t c = unmade _ c.from_residual-in_err-start-2.result c.from_residual-in_err-start-2.ensures.0
+
+pub chunk-returns-in_err-start-2-clause-grown : goal.chunk-returns-in_err-start-2-clause-grown
+chunk-returns-in_err-start-2-clause-grown t c = unmade _ c.from_residual-in_err-start-2.result c.from_residual-in_err-start-2.ensures.0
+
+pub chunk-returns-in_err-start-2-clause-reads : goal.chunk-returns-in_err-start-2-clause-reads
+chunk-returns-in_err-start-2-clause-reads t c = unmade _ c.from_residual-in_err-start-2.result c.from_residual-in_err-start-2.ensures.0
+
+pub chunk-returns-in_err-push-2-clause-tree : goal.chunk-returns-in_err-push-2-clause-tree
+chunk-returns-in_err-push-2-clause-tree t c = unmade _ c.from_residual-in_err-push-2.result c.from_residual-in_err-push-2.ensures.0
+
+pub chunk-returns-in_err-push-2-clause-grown : goal.chunk-returns-in_err-push-2-clause-grown
+chunk-returns-in_err-push-2-clause-grown t c = unmade _ c.from_residual-in_err-push-2.result c.from_residual-in_err-push-2.ensures.0
+
+pub chunk-returns-in_err-push-2-clause-reads : goal.chunk-returns-in_err-push-2-clause-reads
+chunk-returns-in_err-push-2-clause-reads t c = unmade _ c.from_residual-in_err-push-2.result c.from_residual-in_err-push-2.ensures.0
+
+pub branches-returns-in_err-left-clause-tree : goal.branches-returns-in_err-left-clause-tree
+branches-returns-in_err-left-clause-tree t c = unmade _ c.from_residual.result c.from_residual.ensures.0
+
+pub branches-returns-in_err-left-clause-grown : goal.branches-returns-in_err-left-clause-grown
+branches-returns-in_err-left-clause-grown t c = unmade _ c.from_residual.result c.from_residual.ensures.0
+
+pub branches-returns-in_err-left-clause-reads : goal.branches-returns-in_err-left-clause-reads
+branches-returns-in_err-left-clause-reads t c = unmade _ c.from_residual.result c.from_residual.ensures.0
+
+pub branches-returns-in_err-target-clause-tree : goal.branches-returns-in_err-target-clause-tree
+branches-returns-in_err-target-clause-tree t c = unmade _ c.from_residual-in_err-target.result c.from_residual-in_err-target.ensures.0
+
+pub branches-returns-in_err-target-clause-grown : goal.branches-returns-in_err-target-clause-grown
+branches-returns-in_err-target-clause-grown t c = unmade _ c.from_residual-in_err-target.result c.from_residual-in_err-target.ensures.0
+
+pub branches-returns-in_err-target-clause-reads : goal.branches-returns-in_err-target-clause-reads
+branches-returns-in_err-target-clause-reads t c = unmade _ c.from_residual-in_err-target.result c.from_residual-in_err-target.ensures.0
+
+pub branches-returns-in_err-add_target-clause-tree : goal.branches-returns-in_err-add_target-clause-tree
+branches-returns-in_err-add_target-clause-tree t c = unmade _ c.from_residual-in_err-add_target.result c.from_residual-in_err-add_target.ensures.0
+
+pub branches-returns-in_err-add_target-clause-grown : goal.branches-returns-in_err-add_target-clause-grown
+branches-returns-in_err-add_target-clause-grown t c = unmade _ c.from_residual-in_err-add_target.result c.from_residual-in_err-add_target.ensures.0
+
+pub branches-returns-in_err-add_target-clause-reads : goal.branches-returns-in_err-add_target-clause-reads
+branches-returns-in_err-add_target-clause-reads t c = unmade _ c.from_residual-in_err-add_target.result c.from_residual-in_err-add_target.ensures.0
+
+pub branches-returns-in_err-start-clause-tree : goal.branches-returns-in_err-start-clause-tree
+branches-returns-in_err-start-clause-tree t c = unmade _ c.from_residual-in_err-start.result c.from_residual-in_err-start.ensures.0
+
+pub branches-returns-in_err-start-clause-grown : goal.branches-returns-in_err-start-clause-grown
+branches-returns-in_err-start-clause-grown t c = unmade _ c.from_residual-in_err-start.result c.from_residual-in_err-start.ensures.0
+
+pub branches-returns-in_err-start-clause-reads : goal.branches-returns-in_err-start-clause-reads
+branches-returns-in_err-start-clause-reads t c = unmade _ c.from_residual-in_err-start.result c.from_residual-in_err-start.ensures.0
+
+pub branch-returns-in_err-starts-clause-tree : goal.branch-returns-in_err-starts-clause-tree
+branch-returns-in_err-starts-clause-tree t c = unmade _ c.from_residual.result c.from_residual.ensures.0
+
+pub branch-returns-in_err-starts-clause-grown : goal.branch-returns-in_err-starts-clause-grown
+branch-returns-in_err-starts-clause-grown t c = unmade _ c.from_residual.result c.from_residual.ensures.0
+
+pub branch-returns-in_err-starts-clause-reads : goal.branch-returns-in_err-starts-clause-reads
+branch-returns-in_err-starts-clause-reads t c = unmade _ c.from_residual.result c.from_residual.ensures.0
+
+pub branch-returns-in_err-start-clause-tree : goal.branch-returns-in_err-start-clause-tree
+branch-returns-in_err-start-clause-tree t c = unmade _ c.from_residual-in_err-start.result c.from_residual-in_err-start.ensures.0
+
+pub branch-returns-in_err-start-clause-grown : goal.branch-returns-in_err-start-clause-grown
+branch-returns-in_err-start-clause-grown t c = unmade _ c.from_residual-in_err-start.result c.from_residual-in_err-start.ensures.0
+
+pub branch-returns-in_err-start-clause-reads : goal.branch-returns-in_err-start-clause-reads
+branch-returns-in_err-start-clause-reads t c = unmade _ c.from_residual-in_err-start.result c.from_residual-in_err-start.ensures.0
+
+pub chunk-returns-then-levels-gt0-clause-tree : goal.chunk-returns-then-levels-gt0-clause-tree
+chunk-returns-then-levels-gt0-clause-tree t c = c.in_ok-start.ensures.tree
+
+pub chunk-returns-then-levels-gt0-clause-grown : goal.chunk-returns-then-levels-gt0-clause-grown
+chunk-returns-then-levels-gt0-clause-grown t c = c.in_ok-start.ensures.grown
+
+pub chunk-returns-clause-tree : goal.chunk-returns-clause-tree
+chunk-returns-clause-tree t c = c.loop-word.invariant.tree
+
+pub chunk-returns-clause-grown : goal.chunk-returns-clause-grown
+chunk-returns-clause-grown t c = c.loop-word.invariant.grown
+
+pub branches-push-requires-clause-tree : goal.branches-push-requires-clause-tree
+branches-push-requires-clause-tree t c = c.loop-byte.invariant.tree
+
+pub branches-returns-clause-tree : goal.branches-returns-clause-tree
+branches-returns-clause-tree t c = c.in_ok-start.ensures.tree
+
+pub branches-returns-clause-grown : goal.branches-returns-clause-grown
+branches-returns-clause-grown t c = Grown-trans c.args.tree.now c.loop-byte.tree c.push.new.self c.loop-byte.invariant.grown c.in_ok-start.ensures.grown
+
+pub end_chunk-returns-clause-tree : goal.end_chunk-returns-clause-tree
+end_chunk-returns-clause-tree t c = c.in_ok-chunk-2.ensures.tree
+
+pub end_chunk-returns-clause-grown : goal.end_chunk-returns-clause-grown
+end_chunk-returns-clause-grown t c =
+    Grown-trans c.args.tree.now c.chunk.new.tree c.chunk-2.new.tree c.in_ok-chunk.ensures.grown c.in_ok-chunk-2.ensures.grown
+
+pub end_chunk-returns-clause-upto : goal.end_chunk-returns-clause-upto
+end_chunk-returns-clause-upto t c = omega arith
+
+pub end_chunk-returns-clause-long : goal.end_chunk-returns-clause-long
+end_chunk-returns-clause-long t c =
+    between-none vec_items (λ w. 1 < length (vec_items w)) c.args.words.now (c.args.last + 1) (c.args.last + 1) (omega arith)
+
+pub sides-returns-clause-tree : goal.sides-returns-clause-tree
+sides-returns-clause-tree t c = c.in_ok-chunk.ensures.tree
+
+pub sides-returns-clause-grown : goal.sides-returns-clause-grown
+sides-returns-clause-grown t c = Grown-trans c.args.tree.now c.loop-last.tree c.chunk.new.tree c.loop-last.invariant.grown c.in_ok-chunk.ensures.grown
+
+pub sides-end_chunk-requires : goal.sides-end_chunk-requires
+sides-end_chunk-requires t c =
+    let inv = c.loop-last.invariant in (omega arith, (inv.tree, (c.requires.words, (inv.upto, (omega arith, inv.long)))))
+
+pub sides-loop-last-preserved : goal.sides-loop-last-preserved
+sides-loop-last-preserved t c =
+    let before = c.loop-last.invariant in
+    let ended = c.in_ok-from.ensures in
+    record {
+      tree = ended.tree;
+      grown = Grown-trans c.args.tree.now c.loop-last.tree c.end_chunk.new.tree before.grown ended.grown;
+      upto = ended.upto;
+      reads = ended.reads before.reads;
+      long = ended.long;
+    }
+
+pub branches-loop-byte-init : goal.branches-loop-byte-init
+branches-loop-byte-init t c = record {
+  tree = c.requires.tree;
+  grown = Grown-same c.args.tree.now;
+  ascends = rw c.new-row.ensures.items (omega arith);
+  led = λ b lt. absurd (omega arith);
+}
+
+pub branch-sides-requires : goal.branch-sides-requires
+branch-sides-requires t c = (omega arith, (c.requires.tree, c.requires.words))
+
+pub chunk-chain-requires : goal.chunk-chain-requires
+chunk-chain-requires t c = record { tree = c.loop-word.invariant.tree }
+
+pub branch-join-requires-clause-tree : goal.branch-join-requires-clause-tree
+branch-join-requires-clause-tree t c = c.in_ok-starts.ensures.tree
+
+pub branch-returns-clause-tree : goal.branch-returns-clause-tree
+branch-returns-clause-tree t c = c.in_ok-start.ensures.tree
+
+pub branch-returns-clause-grown : goal.branch-returns-clause-grown
+branch-returns-clause-grown t c = Grown-trans c.args.tree.now c.sides.new.tree c.join.new.tree c.in_ok-starts.ensures.grown c.in_ok-start.ensures.grown

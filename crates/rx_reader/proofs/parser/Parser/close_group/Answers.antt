@@ -37,7 +37,7 @@ returns-then-depth-get_nest_limit-clause-value c p start more at =
     let f = around c.in-Some.frame in
     let fs = innermost c.pop.new.self.items in
     let stack = stack_of s.frames.items c.pop.new.self.items c.in-Some.frame c.in-Some.ensures.items in
-    let body : c.in_ok-body.body ≡ gathered_whole g = c.in_ok-body.ensures ∙ ap (λ (l : Level). gathered_whole (gathered l)) c.replace-inside.ensures.value in
+    let body : c.in-Ok.body ≡ gathered_whole g = c.in-Ok.ensures ∙ ap (λ (l : Level). gathered_whole (gathered l)) c.replace-inside.ensures.value in
     let deep : nat_lt (limit_of s.config) (depth (group f.kind (gathered_whole g))) ≡ true =
     deep_if _ (gathered_whole g) _ c.get_nest_limit.result c.depth.result body c.depth.ensures c.get_nest_limit.ensures c.if-depth-get_nest_limit.true in
     rw c.refuse_from-then-depth-get_nest_limit.ensures (
@@ -51,7 +51,7 @@ returns-clause-value c p start more at =
     let f = around c.in-Some.frame in
     let fs = innermost c.pop.new.self.items in
     let stack = stack_of s.frames.items c.pop.new.self.items c.in-Some.frame c.in-Some.ensures.items in
-    let body : c.in_ok-body.body ≡ gathered_whole g = c.in_ok-body.ensures ∙ ap (λ (l : Level). gathered_whole (gathered l)) c.replace-inside.ensures.value in
+    let body : c.in-Ok.body ≡ gathered_whole g = c.in-Ok.ensures ∙ ap (λ (l : Level). gathered_whole (gathered l)) c.replace-inside.ensures.value in
     let within : nat_lt (limit_of s.config) (depth (group f.kind (gathered_whole g))) ≡ false =
     within_if _ (gathered_whole g) _ c.get_nest_limit.result c.depth.result body c.depth.ensures c.get_nest_limit.ensures c.if-depth-get_nest_limit.false in
     let goes = ap (λ (x : List Around). resume s.config x g (Ok (no_items, p))) stack ∙ resume-group s.config fs f g p more within in

@@ -1,4 +1,4 @@
-use Rattle.std.proofs.Common.{refl, inl}
+use Rattle.std.proofs.Common.{refl, inl, ◌∙◌}
 use Rattle.std.proofs.lemmas.Result.{err_from_is_err_and}
 use Rattle.rx_search.specs.Searcher.{AtEachPlace}
 use Rattle.rx_search.proofs.SearcherLemmas.{Progress-begun, Progress-more, Progress-contains, Progress-over, AnswersAlike-begun, AnswersAlike-more, IsReached-more, HasCause-later}
@@ -51,3 +51,48 @@ returns-in_err-found-clause-cause g c =
     rw (p.1, p.2)
     (inl (HasCause-later (g.F.Finder.fails c.args.finder.now) (g.F.Finder.fails c.loop-all.finder) (g.F.Finder.searches c.args.finder.now)
     (g.F.Finder.searches c.loop-all.finder) _ _ i.alike.same_failures i.alike.same_answers i.promised _ _ _ i.reached c.in_err-found.ensures.cause))
+
+pub returns-clause-same_answers : goal.returns-clause-same_answers
+returns-clause-same_answers g c = λ v. c.advance.ensures.same_answers v ∙ c.loop-all.invariant.alike.same_answers v
+
+pub returns-clause-still_can : goal.returns-clause-still_can
+returns-clause-still_can g c = λ v can. c.advance.ensures.still_can v (c.loop-all.invariant.alike.still_can v can)
+
+pub returns-clause-still_promises : goal.returns-clause-still_promises
+returns-clause-still_promises g c = λ v promised. c.advance.ensures.still_promises v (c.loop-all.invariant.alike.still_promises v promised)
+
+pub returns-clause-same_failures : goal.returns-clause-same_failures
+returns-clause-same_failures g c = λ v e cause. c.loop-all.invariant.alike.same_failures v e (c.advance.ensures.same_failures v e cause)
+
+pub returns-clause-stays : goal.returns-clause-stays
+returns-clause-stays g c = λ s kept. c.advance.ensures.stays s (c.loop-all.invariant.alike.stays s kept)
+
+pub returns-in_err-found-clause-same_answers : goal.returns-in_err-found-clause-same_answers
+returns-in_err-found-clause-same_answers g c = λ v. c.advance.ensures.same_answers v ∙ c.loop-all.invariant.alike.same_answers v
+
+pub returns-in_err-found-clause-still_can : goal.returns-in_err-found-clause-still_can
+returns-in_err-found-clause-still_can g c = λ v can. c.advance.ensures.still_can v (c.loop-all.invariant.alike.still_can v can)
+
+pub returns-in_err-found-clause-still_promises : goal.returns-in_err-found-clause-still_promises
+returns-in_err-found-clause-still_promises g c = λ v promised. c.advance.ensures.still_promises v (c.loop-all.invariant.alike.still_promises v promised)
+
+pub returns-in_err-found-clause-same_failures : goal.returns-in_err-found-clause-same_failures
+returns-in_err-found-clause-same_failures g c = λ v e cause. c.loop-all.invariant.alike.same_failures v e (c.advance.ensures.same_failures v e cause)
+
+pub returns-in_err-found-clause-stays : goal.returns-in_err-found-clause-stays
+returns-in_err-found-clause-stays g c = λ s kept. c.advance.ensures.stays s (c.loop-all.invariant.alike.stays s kept)
+
+pub returns-in_err-push-clause-same_answers : goal.returns-in_err-push-clause-same_answers
+returns-in_err-push-clause-same_answers g c = λ v. c.advance.ensures.same_answers v ∙ c.loop-all.invariant.alike.same_answers v
+
+pub returns-in_err-push-clause-still_can : goal.returns-in_err-push-clause-still_can
+returns-in_err-push-clause-still_can g c = λ v can. c.advance.ensures.still_can v (c.loop-all.invariant.alike.still_can v can)
+
+pub returns-in_err-push-clause-still_promises : goal.returns-in_err-push-clause-still_promises
+returns-in_err-push-clause-still_promises g c = λ v promised. c.advance.ensures.still_promises v (c.loop-all.invariant.alike.still_promises v promised)
+
+pub returns-in_err-push-clause-same_failures : goal.returns-in_err-push-clause-same_failures
+returns-in_err-push-clause-same_failures g c = λ v e cause. c.loop-all.invariant.alike.same_failures v e (c.advance.ensures.same_failures v e cause)
+
+pub returns-in_err-push-clause-stays : goal.returns-in_err-push-clause-stays
+returns-in_err-push-clause-stays g c = λ s kept. c.advance.ensures.stays s (c.loop-all.invariant.alike.stays s kept)

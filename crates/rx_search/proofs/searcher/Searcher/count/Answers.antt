@@ -96,3 +96,21 @@ returns-clause-still_promises g c = λ v promised. c.in_ok-advance.ensures.still
 
 pub returns-clause-same_failures : goal.returns-clause-same_failures
 returns-clause-same_failures g c = λ v e cause. c.loop-count.invariant.alike.same_failures v e (c.in_ok-advance.ensures.same_failures v e cause)
+
+pub returns-clause-same_answers : goal.returns-clause-same_answers
+returns-clause-same_answers g c = λ v. c.advance.ensures.same_answers v ∙ c.loop-count.invariant.alike.same_answers v
+
+pub returns-clause-still_can : goal.returns-clause-still_can
+returns-clause-still_can g c = λ v can. c.advance.ensures.still_can v (c.loop-count.invariant.alike.still_can v can)
+
+pub returns-clause-stays : goal.returns-clause-stays
+returns-clause-stays g c = λ s kept. c.advance.ensures.stays s (c.loop-count.invariant.alike.stays s kept)
+
+pub returns-in_err-advance-clause-same_answers : goal.returns-in_err-advance-clause-same_answers
+returns-in_err-advance-clause-same_answers g c = λ v. c.advance.ensures.same_answers v ∙ c.loop-count.invariant.alike.same_answers v
+
+pub returns-in_err-advance-clause-still_can : goal.returns-in_err-advance-clause-still_can
+returns-in_err-advance-clause-still_can g c = λ v can. c.advance.ensures.still_can v (c.loop-count.invariant.alike.still_can v can)
+
+pub returns-in_err-advance-clause-stays : goal.returns-in_err-advance-clause-stays
+returns-in_err-advance-clause-stays g c = λ s kept. c.advance.ensures.stays s (c.loop-count.invariant.alike.stays s kept)

@@ -10,7 +10,7 @@ use Rattle.rx_syntax.proofs.partial.PartialClass.with_new_set.Goals as goal
 pub returns : goal.returns
 returns c ranges is =
     let own = scalars_of c.args.key in
-    let same = c.in_ok-scalars.ensures in
+    let same = c.in-Ok.ensures in
     let ends : HaveScalarEnds own = subst HaveScalarEnds same c.in_ok-members.ensures.ends in
     record {
       ends = both-ends ranges own is.ends ends;

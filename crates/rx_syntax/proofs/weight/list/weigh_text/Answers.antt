@@ -22,4 +22,4 @@ pub returns : goal.returns
 unfolding reads
 returns c =
     let same = ap (λ r. r >>= translated c.args.config.now) c.in_ok-ast.ensures in
-    subst (λ (r : Result Expression SyntaxError). Weighs c.weigh.result r) (sym same) c.weigh.ensures
+    subst (λ (r : Result Expression SyntaxError). Weighs c.weigh-weighed.result r) (sym same) c.weigh-weighed.ensures

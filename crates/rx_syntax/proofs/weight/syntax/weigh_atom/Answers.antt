@@ -7,8 +7,8 @@ use Rattle.rx_syntax.specs.declared.named.SetKey.{SetKey}
 use Rattle.rx_syntax.proofs.lemmas.weights.WeighLemmas.{atom-atom, weighs-atom}
 use Rattle.rx_syntax.proofs.weight.syntax.weigh_atom.Goals as goal
 
-pub of-requires : goal.of-requires
-of-requires c = atom-atom c.args.config.now c.args.flags c.args.piece c.args.own.now c.in_ok-hir.hir c.in_ok-hir.ensures
+pub of_made-requires : goal.of_made-requires
+of_made-requires c = atom-atom c.args.config.now c.args.flags c.args.piece c.args.own.now c.in_ok-hir.hir c.in_ok-hir.ensures
 
 pub returns-in-Some : goal.returns-in-Some
 returns-in-Some c =
@@ -22,5 +22,5 @@ returns-in-Some c =
 pub returns : goal.returns
 returns c =
     let is = c.in_ok-hir.ensures in
-    weighs-atom (atom_of c.args.config.now c.args.flags c.args.piece c.args.own.now) c.in_ok-hir.hir c.of.result is
-    (atom-atom c.args.config.now c.args.flags c.args.piece c.args.own.now c.in_ok-hir.hir is) c.of.ensures
+    weighs-atom (atom_of c.args.config.now c.args.flags c.args.piece c.args.own.now) c.in_ok-hir.hir c.of_made.result is
+    (atom-atom c.args.config.now c.args.flags c.args.piece c.args.own.now c.in_ok-hir.hir is) c.of_made.ensures

@@ -70,3 +70,52 @@ returns-in-Ok-clause-start c =
     (first-begun l.dfa (anchor_of c.args.mode) c.args.beside c.in-Some-start_of.start (not c.is_anchored.result) c.kept_beside-before.result
     c.in-Some-start_of.ensures.value (ap not c.is_anchored.ensures) c.kept_beside-before.ensures)
     c.in-Ok.ensures.state
+
+pub returns-in-Some-clause-sound : goal.returns-in-Some-clause-sound
+returns-in-Some-clause-sound c = c.refused.ensures.sound.dfa
+
+pub returns-in_default-start_of-clause-sound : goal.returns-in_default-start_of-clause-sound
+returns-in_default-start_of-clause-sound c = c.refused.ensures.sound.dfa
+
+pub returns-in-Ok-clause-sound : goal.returns-in-Ok-clause-sound
+returns-in-Ok-clause-sound c = c.refused.ensures.sound.dfa
+
+pub returns-in-Err-clause-sound : goal.returns-in-Err-clause-sound
+returns-in-Err-clause-sound c = c.refused.ensures.sound.dfa
+
+pub returns-in-Some-clause-start : goal.returns-in-Some-clause-start
+returns-in-Some-clause-start c = tt
+
+pub returns-in-Some-clause-readable : goal.returns-in-Some-clause-readable
+returns-in-Some-clause-readable c = tt
+
+pub returns-in-Err-clause-start : goal.returns-in-Err-clause-start
+returns-in-Err-clause-start c = tt
+
+pub returns-in-Err-clause-readable : goal.returns-in-Err-clause-readable
+returns-in-Err-clause-readable c = tt
+
+pub returns-in_default-start_of-clause-err : goal.returns-in_default-start_of-clause-err
+returns-in_default-start_of-clause-err c = tt
+
+pub returns-in_default-start_of-clause-readable : goal.returns-in_default-start_of-clause-readable
+returns-in_default-start_of-clause-readable c = c.in_default.ensures.none
+
+pub returns-in-Ok-clause-err : goal.returns-in-Ok-clause-err
+returns-in-Ok-clause-err c = tt
+
+pub returns-in-Ok-clause-readable : goal.returns-in-Ok-clause-readable
+returns-in-Ok-clause-readable c = c.in_default.ensures.none
+
+pub returns-in-Err-clause-err : goal.returns-in-Err-clause-err
+returns-in-Err-clause-err c = tt
+
+pub returns-in-Ok-clause-fits : goal.returns-in-Ok-clause-fits
+returns-in-Ok-clause-fits c = c.start.ensures.fits
+
+pub returns-in-Err-clause-fits : goal.returns-in-Err-clause-fits
+returns-in-Err-clause-fits c = c.start.ensures.fits
+
+pub returns-in_default-start_of-clause-grown : goal.returns-in_default-start_of-clause-grown
+returns-in_default-start_of-clause-grown c =
+    grown-kept c.args.self.now [] (first_key c.args.self.now.dfa (anchor_of c.args.mode) c.args.beside) None _ c.args.cache.now.rows _ refl refl

@@ -18,15 +18,15 @@ invariant_of-result c =
     let is = c.build_from_nfa.ensures in
     let same : c.build_from_nfa.result.nfa ≡ c.args.nfa = ap (λ (e : PikeVMValue). e.nfa) is in
     let kind = ap (λ (e : PikeVMValue). e.kind) is ∙ c.get_match_kind-kind.ensures in
-    let pre = ap (λ (e : PikeVMValue). e.pre) is ∙ c.in_ok-own.ensures ∙ c.as_ref-2.ensures.value in
-    let dfas = subst (λ (o : Option Nfa). AreDfasBeside c.args.config.now c.args.nfa o c.in_ok-dfas.dfas) c.as_ref.ensures.value c.in_ok-dfas.ensures in (
-      engines-agree c.args.config.now c.in_ok-backtrack.backtrack c.build_from_nfa.result c.args.nfa c.args.pre same kind c.in_ok-backtrack.ensures,
+    let pre = ap (λ (e : PikeVMValue). e.pre) is ∙ c.in_ok-parts.ensures.own in
+    let dfas = subst (λ (o : Option Nfa). AreDfasBeside c.args.config.now c.args.nfa o c.in_ok-parts.parts.dfas) c.as_ref.ensures.value c.in_ok-parts.ensures.dfas in (
+      engines-agree c.args.config.now c.in_ok-parts.parts.backtrack c.build_from_nfa.result c.args.nfa c.args.pre same kind c.in_ok-parts.ensures.backtrack,
       subst (AreKnownOf c.args.info.properties) (sym same) c.requires.known,
       pre,
-      subst (λ (p : Nfa × MatchKind). ServeNfa p.0 p.1 c.args.reverse c.in_ok-dfas.dfas) (λ i. (sym same i, sym kind i))
-          (dfas-serve c.args.config.now c.args.nfa c.args.reverse c.in_ok-dfas.dfas dfas c.requires.reads.0 c.requires.reads.1),
+      subst (λ (p : Nfa × MatchKind). ServeNfa p.0 p.1 c.args.reverse c.in_ok-parts.parts.dfas) (λ i. (sym same i, sym kind i))
+          (dfas-serve c.args.config.now c.args.nfa c.args.reverse c.in_ok-parts.parts.dfas dfas c.requires.reads.0 c.requires.reads.1),
       sym (ap (λ (e : PikeVMValue). e.kind) is),
-      subst (λ (p : Nfa × MatchKind). ServesOnce p.0 p.1 c.args.info.properties c.in_ok-onepass.onepass) (λ i. (sym same i, sym kind i))
-          (serves-once c.args.config.now c.args.nfa c.args.info.properties c.in_ok-onepass.onepass c.in_ok-onepass.ensures
+      subst (λ (p : Nfa × MatchKind). ServesOnce p.0 p.1 c.args.info.properties c.in_ok-parts.parts.onepass) (λ i. (sym same i, sym kind i))
+          (serves-once c.args.config.now c.args.nfa c.args.info.properties c.in_ok-parts.parts.onepass c.in_ok-parts.ensures.onepass
           (alternation (expressions c.requires.known.patterns)) c.requires.known.properties),
     )

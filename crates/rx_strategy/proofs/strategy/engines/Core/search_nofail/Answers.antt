@@ -1,12 +1,11 @@
-use Rattle.std.proofs.Common.{◌≡◌, sym, ap, ◌∙◌, subst}
-use Rattle.rx_model.specs.Search.{Patterns}
+use Rattle.std.proofs.Common.{sym, ap, ◌∙◌, subst}
 use Rattle.rx_search.specs.Told.{tells}
 use Rattle.rx_search.specs.declared.anchored.MatchKind.{MatchKind}
 use Rattle.rx_nfa.specs.Nfa.{Nfa, IsNfaOf}
 use Rattle.rx_strategy.specs.Core.{IsToldFor}
 use Rattle.rx_strategy.specs.OnePass.{begun}
 use Rattle.rx_strategy.proofs.AnswerLemmas.{searched-told}
-use Rattle.rx_strategy.proofs.OnePassLemmas.{begun-told, one-over, one-fits}
+use Rattle.rx_strategy.proofs.OnePassLemmas.{begun-told, one-over}
 use Rattle.rx_strategy.proofs.strategy.engines.Core.search_nofail.Goals as goal
 
 pub find_in_one_pass-requires-clause-each : goal.find_in_one_pass-requires-clause-each
