@@ -17,4 +17,3 @@ pub mod PieceLemmas
 pub mod LastLemmas
 pub mod CountLemmas
 pub mod DigitsBuilt
-pub mod UnmadeLemmas

@@ -1,4 +1,5 @@
 use Rattle.std.proofs.Common.{◌≡◌, ◌<◌, ◌+◌, ◌-◌, ◌∙◌, [], ◌∷◌, refl, sym, ap, subst, arith, length, length-append, get_or}
+use Rattle.std.proofs.lemmas.Result.{IfOk-from_err}
 use Rattle.std.specs.Prelude.{All, OnOk, map, sum_by}
 use Rattle.rx_nfa.specs.Built.{Built, AddsParts}
 use Rattle.rx_nfa.specs.Directed.{build_all, build_last, build_behind, build_digits, lasts_of, before_last}
@@ -11,7 +12,6 @@ use Rattle.rx_nfa.proofs.lemmas.parts.DigitsBuilt.{digits-next, states-digits-fi
 use Rattle.rx_nfa.proofs.lemmas.parts.AddsLemmas.{Adds-built}
 use Rattle.rx_nfa.proofs.lemmas.parts.LastLemmas.{pieces-fit, lasts-fit, before-fits}
 use Rattle.rx_nfa.proofs.lemmas.parts.ResultLemmas.{IfOk-both, OnOk-of}
-use Rattle.rx_nfa.proofs.lemmas.parts.UnmadeLemmas.{unmade}
 use Rattle.rx_nfa.proofs.backwards.+digits.Goals as goal
 
 -- One digit.
@@ -263,79 +263,79 @@ push_last-returns-clause-count t c =
     omega arith)
 
 pub push_digits-returns-in_err-pieces-clause-adds : goal.push_digits-returns-in_err-pieces-clause-adds
-push_digits-returns-in_err-pieces-clause-adds t c = unmade _ c.from_residual.result c.from_residual.ensures.0
+push_digits-returns-in_err-pieces-clause-adds t c = IfOk-from_err c.from_residual.result _ c.from_residual.ensures.0
 
 pub push_digits-returns-in_err-pieces-clause-inside : goal.push_digits-returns-in_err-pieces-clause-inside
-push_digits-returns-in_err-pieces-clause-inside t c = unmade _ c.from_residual.result c.from_residual.ensures.0
+push_digits-returns-in_err-pieces-clause-inside t c = IfOk-from_err c.from_residual.result _ c.from_residual.ensures.0
 
 pub push_digits-returns-in_err-pieces-clause-count : goal.push_digits-returns-in_err-pieces-clause-count
-push_digits-returns-in_err-pieces-clause-count t c = unmade _ c.from_residual.result c.from_residual.ensures.0
+push_digits-returns-in_err-pieces-clause-count t c = IfOk-from_err c.from_residual.result _ c.from_residual.ensures.0
 
 pub push_digits-returns-in_err-pieces-clause-ways : goal.push_digits-returns-in_err-pieces-clause-ways
-push_digits-returns-in_err-pieces-clause-ways t c = unmade _ c.from_residual.result c.from_residual.ensures.0
+push_digits-returns-in_err-pieces-clause-ways t c = IfOk-from_err c.from_residual.result _ c.from_residual.ensures.0
 
 pub push_groups-returns-in_err-lasts-clause-adds : goal.push_groups-returns-in_err-lasts-clause-adds
-push_groups-returns-in_err-lasts-clause-adds t c = unmade _ c.from_residual.result c.from_residual.ensures.0
+push_groups-returns-in_err-lasts-clause-adds t c = IfOk-from_err c.from_residual.result _ c.from_residual.ensures.0
 
 pub push_groups-returns-in_err-lasts-clause-inside : goal.push_groups-returns-in_err-lasts-clause-inside
-push_groups-returns-in_err-lasts-clause-inside t c = unmade _ c.from_residual.result c.from_residual.ensures.0
+push_groups-returns-in_err-lasts-clause-inside t c = IfOk-from_err c.from_residual.result _ c.from_residual.ensures.0
 
 pub push_groups-returns-in_err-lasts-clause-count : goal.push_groups-returns-in_err-lasts-clause-count
-push_groups-returns-in_err-lasts-clause-count t c = unmade _ c.from_residual.result c.from_residual.ensures.0
+push_groups-returns-in_err-lasts-clause-count t c = IfOk-from_err c.from_residual.result _ c.from_residual.ensures.0
 
 pub push_groups-returns-in_err-lasts-clause-ways : goal.push_groups-returns-in_err-lasts-clause-ways
-push_groups-returns-in_err-lasts-clause-ways t c = unmade _ c.from_residual.result c.from_residual.ensures.0
+push_groups-returns-in_err-lasts-clause-ways t c = IfOk-from_err c.from_residual.result _ c.from_residual.ensures.0
 
 pub push_groups-returns-in_err-before-clause-adds : goal.push_groups-returns-in_err-before-clause-adds
-push_groups-returns-in_err-before-clause-adds t c = unmade _ c.from_residual-in_err-before.result c.from_residual-in_err-before.ensures.0
+push_groups-returns-in_err-before-clause-adds t c = IfOk-from_err c.from_residual-in_err-before.result _ c.from_residual-in_err-before.ensures.0
 
 pub push_groups-returns-in_err-before-clause-inside : goal.push_groups-returns-in_err-before-clause-inside
-push_groups-returns-in_err-before-clause-inside t c = unmade _ c.from_residual-in_err-before.result c.from_residual-in_err-before.ensures.0
+push_groups-returns-in_err-before-clause-inside t c = IfOk-from_err c.from_residual-in_err-before.result _ c.from_residual-in_err-before.ensures.0
 
 pub push_groups-returns-in_err-before-clause-count : goal.push_groups-returns-in_err-before-clause-count
-push_groups-returns-in_err-before-clause-count t c = unmade _ c.from_residual-in_err-before.result c.from_residual-in_err-before.ensures.0
+push_groups-returns-in_err-before-clause-count t c = IfOk-from_err c.from_residual-in_err-before.result _ c.from_residual-in_err-before.ensures.0
 
 pub push_groups-returns-in_err-before-clause-ways : goal.push_groups-returns-in_err-before-clause-ways
-push_groups-returns-in_err-before-clause-ways t c = unmade _ c.from_residual-in_err-before.result c.from_residual-in_err-before.ensures.0
+push_groups-returns-in_err-before-clause-ways t c = IfOk-from_err c.from_residual-in_err-before.result _ c.from_residual-in_err-before.ensures.0
 
 pub push_groups-returns-in_err-start-clause-adds : goal.push_groups-returns-in_err-start-clause-adds
-push_groups-returns-in_err-start-clause-adds t c = unmade _ c.from_residual-in_err-start.result c.from_residual-in_err-start.ensures.0
+push_groups-returns-in_err-start-clause-adds t c = IfOk-from_err c.from_residual-in_err-start.result _ c.from_residual-in_err-start.ensures.0
 
 pub push_groups-returns-in_err-start-clause-inside : goal.push_groups-returns-in_err-start-clause-inside
-push_groups-returns-in_err-start-clause-inside t c = unmade _ c.from_residual-in_err-start.result c.from_residual-in_err-start.ensures.0
+push_groups-returns-in_err-start-clause-inside t c = IfOk-from_err c.from_residual-in_err-start.result _ c.from_residual-in_err-start.ensures.0
 
 pub push_groups-returns-in_err-start-clause-count : goal.push_groups-returns-in_err-start-clause-count
-push_groups-returns-in_err-start-clause-count t c = unmade _ c.from_residual-in_err-start.result c.from_residual-in_err-start.ensures.0
+push_groups-returns-in_err-start-clause-count t c = IfOk-from_err c.from_residual-in_err-start.result _ c.from_residual-in_err-start.ensures.0
 
 pub push_groups-returns-in_err-start-clause-ways : goal.push_groups-returns-in_err-start-clause-ways
-push_groups-returns-in_err-start-clause-ways t c = unmade _ c.from_residual-in_err-start.result c.from_residual-in_err-start.ensures.0
+push_groups-returns-in_err-start-clause-ways t c = IfOk-from_err c.from_residual-in_err-start.result _ c.from_residual-in_err-start.ensures.0
 
 pub push_groups-returns-in_err-push-clause-adds : goal.push_groups-returns-in_err-push-clause-adds
-push_groups-returns-in_err-push-clause-adds t c = unmade _ c.from_residual-in_err-push.result c.from_residual-in_err-push.ensures.0
+push_groups-returns-in_err-push-clause-adds t c = IfOk-from_err c.from_residual-in_err-push.result _ c.from_residual-in_err-push.ensures.0
 
 pub push_groups-returns-in_err-push-clause-inside : goal.push_groups-returns-in_err-push-clause-inside
-push_groups-returns-in_err-push-clause-inside t c = unmade _ c.from_residual-in_err-push.result c.from_residual-in_err-push.ensures.0
+push_groups-returns-in_err-push-clause-inside t c = IfOk-from_err c.from_residual-in_err-push.result _ c.from_residual-in_err-push.ensures.0
 
 pub push_groups-returns-in_err-push-clause-count : goal.push_groups-returns-in_err-push-clause-count
-push_groups-returns-in_err-push-clause-count t c = unmade _ c.from_residual-in_err-push.result c.from_residual-in_err-push.ensures.0
+push_groups-returns-in_err-push-clause-count t c = IfOk-from_err c.from_residual-in_err-push.result _ c.from_residual-in_err-push.ensures.0
 
 pub push_groups-returns-in_err-push-clause-ways : goal.push_groups-returns-in_err-push-clause-ways
-push_groups-returns-in_err-push-clause-ways t c = unmade _ c.from_residual-in_err-push.result c.from_residual-in_err-push.ensures.0
+push_groups-returns-in_err-push-clause-ways t c = IfOk-from_err c.from_residual-in_err-push.result _ c.from_residual-in_err-push.ensures.0
 
 pub push_last-returns-in_err-push_digits-clause-built : goal.push_last-returns-in_err-push_digits-clause-built
-push_last-returns-in_err-push_digits-clause-built t c = unmade _ c.from_residual.result c.from_residual.ensures.0
+push_last-returns-in_err-push_digits-clause-built t c = IfOk-from_err c.from_residual.result _ c.from_residual.ensures.0
 
 pub push_last-returns-in_err-push_digits-clause-inside : goal.push_last-returns-in_err-push_digits-clause-inside
-push_last-returns-in_err-push_digits-clause-inside t c = unmade _ c.from_residual.result c.from_residual.ensures.0
+push_last-returns-in_err-push_digits-clause-inside t c = IfOk-from_err c.from_residual.result _ c.from_residual.ensures.0
 
 pub push_last-returns-in_err-push_digits-clause-count : goal.push_last-returns-in_err-push_digits-clause-count
-push_last-returns-in_err-push_digits-clause-count t c = unmade _ c.from_residual.result c.from_residual.ensures.0
+push_last-returns-in_err-push_digits-clause-count t c = IfOk-from_err c.from_residual.result _ c.from_residual.ensures.0
 
 pub push_last-returns-in_err-rest-clause-built : goal.push_last-returns-in_err-rest-clause-built
-push_last-returns-in_err-rest-clause-built t c = unmade _ c.from_residual-in_err-rest.result c.from_residual-in_err-rest.ensures.0
+push_last-returns-in_err-rest-clause-built t c = IfOk-from_err c.from_residual-in_err-rest.result _ c.from_residual-in_err-rest.ensures.0
 
 pub push_last-returns-in_err-rest-clause-inside : goal.push_last-returns-in_err-rest-clause-inside
-push_last-returns-in_err-rest-clause-inside t c = unmade _ c.from_residual-in_err-rest.result c.from_residual-in_err-rest.ensures.0
+push_last-returns-in_err-rest-clause-inside t c = IfOk-from_err c.from_residual-in_err-rest.result _ c.from_residual-in_err-rest.ensures.0
 
 pub push_last-returns-in_err-rest-clause-count : goal.push_last-returns-in_err-rest-clause-count
-push_last-returns-in_err-rest-clause-count t c = unmade _ c.from_residual-in_err-rest.result c.from_residual-in_err-rest.ensures.0
+push_last-returns-in_err-rest-clause-count t c = IfOk-from_err c.from_residual-in_err-rest.result _ c.from_residual-in_err-rest.ensures.0

@@ -1,12 +1,11 @@
 use Rattle.std.proofs.Common.{◌≡◌, ◌+◌, arith, length}
-use Rattle.std.proofs.lemmas.Result.{on_ok_weaker, IfOk-weaker}
+use Rattle.std.proofs.lemmas.Result.{on_ok_weaker, IfOk-weaker, IfOk-from_err}
 use Rattle.rx_nfa.specs.Built.{Built, JoinsAll}
 use Rattle.rx_nfa.specs.Directed.{build_all, build_joined, scalar_digits}
 use Rattle.rx_nfa.specs.Digits.{joints}
 use Rattle.rx_nfa.specs.Ranges.{size_of_block, cost_of_class}
 use Rattle.rx_nfa.proofs.lemmas.parts.CountLemmas.{joints-most}
 use Rattle.rx_nfa.proofs.lemmas.parts.DigitsBuilt.{class-built}
-use Rattle.rx_nfa.proofs.lemmas.parts.UnmadeLemmas.{unmade}
 use Rattle.rx_nfa.proofs.backwards.compile_class_backwards.Goals as goal
 
 pub push_band-requires-clause-fits : goal.push_band-requires-clause-fits
@@ -186,46 +185,46 @@ pub returns-clause-inside : goal.returns-clause-inside
 returns-clause-inside c = c.join.ensures.inside
 
 pub returns-in_err-push_band-clause-built : goal.returns-in_err-push_band-clause-built
-returns-in_err-push_band-clause-built c = unmade _ c.from_residual.result c.from_residual.ensures.0
+returns-in_err-push_band-clause-built c = IfOk-from_err c.from_residual.result _ c.from_residual.ensures.0
 
 pub returns-in_err-push_band-clause-inside : goal.returns-in_err-push_band-clause-inside
-returns-in_err-push_band-clause-inside c = unmade _ c.from_residual.result c.from_residual.ensures.0
+returns-in_err-push_band-clause-inside c = IfOk-from_err c.from_residual.result _ c.from_residual.ensures.0
 
 pub returns-in_err-push_band-clause-count : goal.returns-in_err-push_band-clause-count
-returns-in_err-push_band-clause-count c = unmade _ c.from_residual.result c.from_residual.ensures.0
+returns-in_err-push_band-clause-count c = IfOk-from_err c.from_residual.result _ c.from_residual.ensures.0
 
 pub returns-in_err-push_band-2-clause-built : goal.returns-in_err-push_band-2-clause-built
-returns-in_err-push_band-2-clause-built c = unmade _ c.from_residual-in_err-push_band-2.result c.from_residual-in_err-push_band-2.ensures.0
+returns-in_err-push_band-2-clause-built c = IfOk-from_err c.from_residual-in_err-push_band-2.result _ c.from_residual-in_err-push_band-2.ensures.0
 
 pub returns-in_err-push_band-2-clause-inside : goal.returns-in_err-push_band-2-clause-inside
-returns-in_err-push_band-2-clause-inside c = unmade _ c.from_residual-in_err-push_band-2.result c.from_residual-in_err-push_band-2.ensures.0
+returns-in_err-push_band-2-clause-inside c = IfOk-from_err c.from_residual-in_err-push_band-2.result _ c.from_residual-in_err-push_band-2.ensures.0
 
 pub returns-in_err-push_band-2-clause-count : goal.returns-in_err-push_band-2-clause-count
-returns-in_err-push_band-2-clause-count c = unmade _ c.from_residual-in_err-push_band-2.result c.from_residual-in_err-push_band-2.ensures.0
+returns-in_err-push_band-2-clause-count c = IfOk-from_err c.from_residual-in_err-push_band-2.result _ c.from_residual-in_err-push_band-2.ensures.0
 
 pub returns-in_err-push_band-3-clause-built : goal.returns-in_err-push_band-3-clause-built
-returns-in_err-push_band-3-clause-built c = unmade _ c.from_residual-in_err-push_band-3.result c.from_residual-in_err-push_band-3.ensures.0
+returns-in_err-push_band-3-clause-built c = IfOk-from_err c.from_residual-in_err-push_band-3.result _ c.from_residual-in_err-push_band-3.ensures.0
 
 pub returns-in_err-push_band-3-clause-inside : goal.returns-in_err-push_band-3-clause-inside
-returns-in_err-push_band-3-clause-inside c = unmade _ c.from_residual-in_err-push_band-3.result c.from_residual-in_err-push_band-3.ensures.0
+returns-in_err-push_band-3-clause-inside c = IfOk-from_err c.from_residual-in_err-push_band-3.result _ c.from_residual-in_err-push_band-3.ensures.0
 
 pub returns-in_err-push_band-3-clause-count : goal.returns-in_err-push_band-3-clause-count
-returns-in_err-push_band-3-clause-count c = unmade _ c.from_residual-in_err-push_band-3.result c.from_residual-in_err-push_band-3.ensures.0
+returns-in_err-push_band-3-clause-count c = IfOk-from_err c.from_residual-in_err-push_band-3.result _ c.from_residual-in_err-push_band-3.ensures.0
 
 pub returns-in_err-push_band-4-clause-built : goal.returns-in_err-push_band-4-clause-built
-returns-in_err-push_band-4-clause-built c = unmade _ c.from_residual-in_err-push_band-4.result c.from_residual-in_err-push_band-4.ensures.0
+returns-in_err-push_band-4-clause-built c = IfOk-from_err c.from_residual-in_err-push_band-4.result _ c.from_residual-in_err-push_band-4.ensures.0
 
 pub returns-in_err-push_band-4-clause-inside : goal.returns-in_err-push_band-4-clause-inside
-returns-in_err-push_band-4-clause-inside c = unmade _ c.from_residual-in_err-push_band-4.result c.from_residual-in_err-push_band-4.ensures.0
+returns-in_err-push_band-4-clause-inside c = IfOk-from_err c.from_residual-in_err-push_band-4.result _ c.from_residual-in_err-push_band-4.ensures.0
 
 pub returns-in_err-push_band-4-clause-count : goal.returns-in_err-push_band-4-clause-count
-returns-in_err-push_band-4-clause-count c = unmade _ c.from_residual-in_err-push_band-4.result c.from_residual-in_err-push_band-4.ensures.0
+returns-in_err-push_band-4-clause-count c = IfOk-from_err c.from_residual-in_err-push_band-4.result _ c.from_residual-in_err-push_band-4.ensures.0
 
 pub returns-in_err-push_band-5-clause-built : goal.returns-in_err-push_band-5-clause-built
-returns-in_err-push_band-5-clause-built c = unmade _ c.from_residual-in_err-push_band-5.result c.from_residual-in_err-push_band-5.ensures.0
+returns-in_err-push_band-5-clause-built c = IfOk-from_err c.from_residual-in_err-push_band-5.result _ c.from_residual-in_err-push_band-5.ensures.0
 
 pub returns-in_err-push_band-5-clause-inside : goal.returns-in_err-push_band-5-clause-inside
-returns-in_err-push_band-5-clause-inside c = unmade _ c.from_residual-in_err-push_band-5.result c.from_residual-in_err-push_band-5.ensures.0
+returns-in_err-push_band-5-clause-inside c = IfOk-from_err c.from_residual-in_err-push_band-5.result _ c.from_residual-in_err-push_band-5.ensures.0
 
 pub returns-in_err-push_band-5-clause-count : goal.returns-in_err-push_band-5-clause-count
-returns-in_err-push_band-5-clause-count c = unmade _ c.from_residual-in_err-push_band-5.result c.from_residual-in_err-push_band-5.ensures.0
+returns-in_err-push_band-5-clause-count c = IfOk-from_err c.from_residual-in_err-push_band-5.result _ c.from_residual-in_err-push_band-5.ensures.0

@@ -1,4 +1,5 @@
 use Rattle.std.proofs.Common.{◌≤◌, ◌+◌, ◌*◌, ◌∙◌, sym, subst, length, arith}
+use Rattle.std.proofs.lemmas.Result.{IfOk-from_err}
 use Rattle.rx_model.specs.Text.{is_member}
 use Rattle.rx_search.specs.Limits.{id_limit}
 use Rattle.rx_nfa.specs.Row.{IsReader}
@@ -7,7 +8,6 @@ use Rattle.rx_nfa.specs.Ranges.{RisesFrom, StaysBelow, size_of_block, whole_dept
 use Rattle.rx_nfa.proofs.lemmas.classes.RowLemmas.{AddsReaders-trans}
 use Rattle.rx_nfa.proofs.lemmas.classes.BlockLemmas.{IsReady-grows}
 use Rattle.rx_nfa.proofs.lemmas.classes.ClassLemmas.{RisesFrom-clip, StaysBelow-clip, StaysBelow-more, parts_cost}
-use Rattle.rx_nfa.proofs.lemmas.parts.UnmadeLemmas.{unmade}
 use Rattle.rx_nfa.proofs.class.add_band.Goals as goal
 
 pub deepen-requires-clause-rises : goal.deepen-requires-clause-rises
@@ -87,67 +87,67 @@ pub returns-clause-grows : goal.returns-clause-grows
 returns-clause-grows c = AddsReaders-trans _ _ _ c.in_ok-deepen.ensures.grows c.in_ok-row.ensures.grows
 
 pub returns-in_err-parts-clause-some : goal.returns-in_err-parts-clause-some
-returns-in_err-parts-clause-some c = unmade _ c.from_residual.result c.from_residual.ensures.0
+returns-in_err-parts-clause-some c = IfOk-from_err c.from_residual.result _ c.from_residual.ensures.0
 
 pub returns-in_err-parts-clause-grows : goal.returns-in_err-parts-clause-grows
-returns-in_err-parts-clause-grows c = unmade _ c.from_residual.result c.from_residual.ensures.0
+returns-in_err-parts-clause-grows c = IfOk-from_err c.from_residual.result _ c.from_residual.ensures.0
 
 pub returns-in_err-parts-clause-closed : goal.returns-in_err-parts-clause-closed
-returns-in_err-parts-clause-closed c = unmade _ c.from_residual.result c.from_residual.ensures.0
+returns-in_err-parts-clause-closed c = IfOk-from_err c.from_residual.result _ c.from_residual.ensures.0
 
 pub returns-in_err-parts-clause-ready : goal.returns-in_err-parts-clause-ready
-returns-in_err-parts-clause-ready c = unmade _ c.from_residual.result c.from_residual.ensures.0
+returns-in_err-parts-clause-ready c = IfOk-from_err c.from_residual.result _ c.from_residual.ensures.0
 
 pub returns-in_err-parts-clause-ascends : goal.returns-in_err-parts-clause-ascends
-returns-in_err-parts-clause-ascends c = unmade _ c.from_residual.result c.from_residual.ensures.0
+returns-in_err-parts-clause-ascends c = IfOk-from_err c.from_residual.result _ c.from_residual.ensures.0
 
 pub returns-in_err-parts-clause-built : goal.returns-in_err-parts-clause-built
-returns-in_err-parts-clause-built c = unmade _ c.from_residual.result c.from_residual.ensures.0
+returns-in_err-parts-clause-built c = IfOk-from_err c.from_residual.result _ c.from_residual.ensures.0
 
 pub returns-in_err-parts-clause-count : goal.returns-in_err-parts-clause-count
-returns-in_err-parts-clause-count c = unmade _ c.from_residual.result c.from_residual.ensures.0
+returns-in_err-parts-clause-count c = IfOk-from_err c.from_residual.result _ c.from_residual.ensures.0
 
 pub returns-in_err-deepen-clause-some : goal.returns-in_err-deepen-clause-some
-returns-in_err-deepen-clause-some c = unmade _ c.from_residual-in_err-deepen.result c.from_residual-in_err-deepen.ensures.0
+returns-in_err-deepen-clause-some c = IfOk-from_err c.from_residual-in_err-deepen.result _ c.from_residual-in_err-deepen.ensures.0
 
 pub returns-in_err-deepen-clause-grows : goal.returns-in_err-deepen-clause-grows
-returns-in_err-deepen-clause-grows c = unmade _ c.from_residual-in_err-deepen.result c.from_residual-in_err-deepen.ensures.0
+returns-in_err-deepen-clause-grows c = IfOk-from_err c.from_residual-in_err-deepen.result _ c.from_residual-in_err-deepen.ensures.0
 
 pub returns-in_err-deepen-clause-closed : goal.returns-in_err-deepen-clause-closed
-returns-in_err-deepen-clause-closed c = unmade _ c.from_residual-in_err-deepen.result c.from_residual-in_err-deepen.ensures.0
+returns-in_err-deepen-clause-closed c = IfOk-from_err c.from_residual-in_err-deepen.result _ c.from_residual-in_err-deepen.ensures.0
 
 pub returns-in_err-deepen-clause-ready : goal.returns-in_err-deepen-clause-ready
-returns-in_err-deepen-clause-ready c = unmade _ c.from_residual-in_err-deepen.result c.from_residual-in_err-deepen.ensures.0
+returns-in_err-deepen-clause-ready c = IfOk-from_err c.from_residual-in_err-deepen.result _ c.from_residual-in_err-deepen.ensures.0
 
 pub returns-in_err-deepen-clause-ascends : goal.returns-in_err-deepen-clause-ascends
-returns-in_err-deepen-clause-ascends c = unmade _ c.from_residual-in_err-deepen.result c.from_residual-in_err-deepen.ensures.0
+returns-in_err-deepen-clause-ascends c = IfOk-from_err c.from_residual-in_err-deepen.result _ c.from_residual-in_err-deepen.ensures.0
 
 pub returns-in_err-deepen-clause-built : goal.returns-in_err-deepen-clause-built
-returns-in_err-deepen-clause-built c = unmade _ c.from_residual-in_err-deepen.result c.from_residual-in_err-deepen.ensures.0
+returns-in_err-deepen-clause-built c = IfOk-from_err c.from_residual-in_err-deepen.result _ c.from_residual-in_err-deepen.ensures.0
 
 pub returns-in_err-deepen-clause-count : goal.returns-in_err-deepen-clause-count
-returns-in_err-deepen-clause-count c = unmade _ c.from_residual-in_err-deepen.result c.from_residual-in_err-deepen.ensures.0
+returns-in_err-deepen-clause-count c = IfOk-from_err c.from_residual-in_err-deepen.result _ c.from_residual-in_err-deepen.ensures.0
 
 pub returns-in_err-row-clause-some : goal.returns-in_err-row-clause-some
-returns-in_err-row-clause-some c = unmade _ c.from_residual-in_err-row.result c.from_residual-in_err-row.ensures.0
+returns-in_err-row-clause-some c = IfOk-from_err c.from_residual-in_err-row.result _ c.from_residual-in_err-row.ensures.0
 
 pub returns-in_err-row-clause-grows : goal.returns-in_err-row-clause-grows
-returns-in_err-row-clause-grows c = unmade _ c.from_residual-in_err-row.result c.from_residual-in_err-row.ensures.0
+returns-in_err-row-clause-grows c = IfOk-from_err c.from_residual-in_err-row.result _ c.from_residual-in_err-row.ensures.0
 
 pub returns-in_err-row-clause-closed : goal.returns-in_err-row-clause-closed
-returns-in_err-row-clause-closed c = unmade _ c.from_residual-in_err-row.result c.from_residual-in_err-row.ensures.0
+returns-in_err-row-clause-closed c = IfOk-from_err c.from_residual-in_err-row.result _ c.from_residual-in_err-row.ensures.0
 
 pub returns-in_err-row-clause-ready : goal.returns-in_err-row-clause-ready
-returns-in_err-row-clause-ready c = unmade _ c.from_residual-in_err-row.result c.from_residual-in_err-row.ensures.0
+returns-in_err-row-clause-ready c = IfOk-from_err c.from_residual-in_err-row.result _ c.from_residual-in_err-row.ensures.0
 
 pub returns-in_err-row-clause-ascends : goal.returns-in_err-row-clause-ascends
-returns-in_err-row-clause-ascends c = unmade _ c.from_residual-in_err-row.result c.from_residual-in_err-row.ensures.0
+returns-in_err-row-clause-ascends c = IfOk-from_err c.from_residual-in_err-row.result _ c.from_residual-in_err-row.ensures.0
 
 pub returns-in_err-row-clause-built : goal.returns-in_err-row-clause-built
-returns-in_err-row-clause-built c = unmade _ c.from_residual-in_err-row.result c.from_residual-in_err-row.ensures.0
+returns-in_err-row-clause-built c = IfOk-from_err c.from_residual-in_err-row.result _ c.from_residual-in_err-row.ensures.0
 
 pub returns-in_err-row-clause-count : goal.returns-in_err-row-clause-count
-returns-in_err-row-clause-count c = unmade _ c.from_residual-in_err-row.result c.from_residual-in_err-row.ensures.0
+returns-in_err-row-clause-count c = IfOk-from_err c.from_residual-in_err-row.result _ c.from_residual-in_err-row.ensures.0
 
 pub returns-clause-some : goal.returns-clause-some
 returns-clause-some c = c.in_ok-deepen.ensures.some

@@ -1,4 +1,5 @@
 use Rattle.std.proofs.Common.{arith, length, refl}
+use Rattle.std.proofs.lemmas.Result.{IfOk-from_err}
 use Rattle.rx_nfa.specs.Ranges.{size_of_block, cost_of_class}
 use Rattle.rx_nfa.specs.Row.{IsReader}
 use Rattle.rx_nfa.specs.Trie.{IsReady}
@@ -6,7 +7,6 @@ use Rattle.rx_nfa.proofs.lemmas.classes.RowLemmas.{AddsReaders-trans, Ascends-mo
 use Rattle.rx_nfa.proofs.lemmas.classes.BlockLemmas.{IsReady-one, IsRow-map, row-below}
 use Rattle.rx_nfa.proofs.lemmas.classes.RangesLemmas.{AreScalarRanges-rise}
 use Rattle.rx_nfa.proofs.lemmas.classes.ClassLemmas.{IsClass-from}
-use Rattle.rx_nfa.proofs.lemmas.parts.UnmadeLemmas.{unmade}
 use Rattle.rx_nfa.proofs.class.compile_class.Goals as goal
 
 pub add_band-requires-clause-rises : goal.add_band-requires-clause-rises
@@ -283,85 +283,85 @@ pub add_band-requires-5-clause-some : goal.add_band-requires-5-clause-some
 add_band-requires-5-clause-some c = c.in_ok-add_band-4.ensures.some
 
 pub returns-in_err-push-clause-built : goal.returns-in_err-push-clause-built
-returns-in_err-push-clause-built c = unmade _ c.from_residual.result c.from_residual.ensures.0
+returns-in_err-push-clause-built c = IfOk-from_err c.from_residual.result _ c.from_residual.ensures.0
 
 pub returns-in_err-push-clause-grows : goal.returns-in_err-push-clause-grows
-returns-in_err-push-clause-grows c = unmade _ c.from_residual.result c.from_residual.ensures.0
+returns-in_err-push-clause-grows c = IfOk-from_err c.from_residual.result _ c.from_residual.ensures.0
 
 pub returns-in_err-push-clause-closed : goal.returns-in_err-push-clause-closed
-returns-in_err-push-clause-closed c = unmade _ c.from_residual.result c.from_residual.ensures.0
+returns-in_err-push-clause-closed c = IfOk-from_err c.from_residual.result _ c.from_residual.ensures.0
 
 pub returns-in_err-push-clause-count : goal.returns-in_err-push-clause-count
-returns-in_err-push-clause-count c = unmade _ c.from_residual.result c.from_residual.ensures.0
+returns-in_err-push-clause-count c = IfOk-from_err c.from_residual.result _ c.from_residual.ensures.0
 
 pub returns-in_err-add_band-clause-built : goal.returns-in_err-add_band-clause-built
-returns-in_err-add_band-clause-built c = unmade _ c.from_residual-in_err-add_band.result c.from_residual-in_err-add_band.ensures.0
+returns-in_err-add_band-clause-built c = IfOk-from_err c.from_residual-in_err-add_band.result _ c.from_residual-in_err-add_band.ensures.0
 
 pub returns-in_err-add_band-clause-grows : goal.returns-in_err-add_band-clause-grows
-returns-in_err-add_band-clause-grows c = unmade _ c.from_residual-in_err-add_band.result c.from_residual-in_err-add_band.ensures.0
+returns-in_err-add_band-clause-grows c = IfOk-from_err c.from_residual-in_err-add_band.result _ c.from_residual-in_err-add_band.ensures.0
 
 pub returns-in_err-add_band-clause-closed : goal.returns-in_err-add_band-clause-closed
-returns-in_err-add_band-clause-closed c = unmade _ c.from_residual-in_err-add_band.result c.from_residual-in_err-add_band.ensures.0
+returns-in_err-add_band-clause-closed c = IfOk-from_err c.from_residual-in_err-add_band.result _ c.from_residual-in_err-add_band.ensures.0
 
 pub returns-in_err-add_band-clause-count : goal.returns-in_err-add_band-clause-count
-returns-in_err-add_band-clause-count c = unmade _ c.from_residual-in_err-add_band.result c.from_residual-in_err-add_band.ensures.0
+returns-in_err-add_band-clause-count c = IfOk-from_err c.from_residual-in_err-add_band.result _ c.from_residual-in_err-add_band.ensures.0
 
 pub returns-in_err-add_band-2-clause-built : goal.returns-in_err-add_band-2-clause-built
-returns-in_err-add_band-2-clause-built c = unmade _ c.from_residual-in_err-add_band-2.result c.from_residual-in_err-add_band-2.ensures.0
+returns-in_err-add_band-2-clause-built c = IfOk-from_err c.from_residual-in_err-add_band-2.result _ c.from_residual-in_err-add_band-2.ensures.0
 
 pub returns-in_err-add_band-2-clause-grows : goal.returns-in_err-add_band-2-clause-grows
-returns-in_err-add_band-2-clause-grows c = unmade _ c.from_residual-in_err-add_band-2.result c.from_residual-in_err-add_band-2.ensures.0
+returns-in_err-add_band-2-clause-grows c = IfOk-from_err c.from_residual-in_err-add_band-2.result _ c.from_residual-in_err-add_band-2.ensures.0
 
 pub returns-in_err-add_band-2-clause-closed : goal.returns-in_err-add_band-2-clause-closed
-returns-in_err-add_band-2-clause-closed c = unmade _ c.from_residual-in_err-add_band-2.result c.from_residual-in_err-add_band-2.ensures.0
+returns-in_err-add_band-2-clause-closed c = IfOk-from_err c.from_residual-in_err-add_band-2.result _ c.from_residual-in_err-add_band-2.ensures.0
 
 pub returns-in_err-add_band-2-clause-count : goal.returns-in_err-add_band-2-clause-count
-returns-in_err-add_band-2-clause-count c = unmade _ c.from_residual-in_err-add_band-2.result c.from_residual-in_err-add_band-2.ensures.0
+returns-in_err-add_band-2-clause-count c = IfOk-from_err c.from_residual-in_err-add_band-2.result _ c.from_residual-in_err-add_band-2.ensures.0
 
 pub returns-in_err-add_band-3-clause-built : goal.returns-in_err-add_band-3-clause-built
-returns-in_err-add_band-3-clause-built c = unmade _ c.from_residual-in_err-add_band-3.result c.from_residual-in_err-add_band-3.ensures.0
+returns-in_err-add_band-3-clause-built c = IfOk-from_err c.from_residual-in_err-add_band-3.result _ c.from_residual-in_err-add_band-3.ensures.0
 
 pub returns-in_err-add_band-3-clause-grows : goal.returns-in_err-add_band-3-clause-grows
-returns-in_err-add_band-3-clause-grows c = unmade _ c.from_residual-in_err-add_band-3.result c.from_residual-in_err-add_band-3.ensures.0
+returns-in_err-add_band-3-clause-grows c = IfOk-from_err c.from_residual-in_err-add_band-3.result _ c.from_residual-in_err-add_band-3.ensures.0
 
 pub returns-in_err-add_band-3-clause-closed : goal.returns-in_err-add_band-3-clause-closed
-returns-in_err-add_band-3-clause-closed c = unmade _ c.from_residual-in_err-add_band-3.result c.from_residual-in_err-add_band-3.ensures.0
+returns-in_err-add_band-3-clause-closed c = IfOk-from_err c.from_residual-in_err-add_band-3.result _ c.from_residual-in_err-add_band-3.ensures.0
 
 pub returns-in_err-add_band-3-clause-count : goal.returns-in_err-add_band-3-clause-count
-returns-in_err-add_band-3-clause-count c = unmade _ c.from_residual-in_err-add_band-3.result c.from_residual-in_err-add_band-3.ensures.0
+returns-in_err-add_band-3-clause-count c = IfOk-from_err c.from_residual-in_err-add_band-3.result _ c.from_residual-in_err-add_band-3.ensures.0
 
 pub returns-in_err-add_band-4-clause-built : goal.returns-in_err-add_band-4-clause-built
-returns-in_err-add_band-4-clause-built c = unmade _ c.from_residual-in_err-add_band-4.result c.from_residual-in_err-add_band-4.ensures.0
+returns-in_err-add_band-4-clause-built c = IfOk-from_err c.from_residual-in_err-add_band-4.result _ c.from_residual-in_err-add_band-4.ensures.0
 
 pub returns-in_err-add_band-4-clause-grows : goal.returns-in_err-add_band-4-clause-grows
-returns-in_err-add_band-4-clause-grows c = unmade _ c.from_residual-in_err-add_band-4.result c.from_residual-in_err-add_band-4.ensures.0
+returns-in_err-add_band-4-clause-grows c = IfOk-from_err c.from_residual-in_err-add_band-4.result _ c.from_residual-in_err-add_band-4.ensures.0
 
 pub returns-in_err-add_band-4-clause-closed : goal.returns-in_err-add_band-4-clause-closed
-returns-in_err-add_band-4-clause-closed c = unmade _ c.from_residual-in_err-add_band-4.result c.from_residual-in_err-add_band-4.ensures.0
+returns-in_err-add_band-4-clause-closed c = IfOk-from_err c.from_residual-in_err-add_band-4.result _ c.from_residual-in_err-add_band-4.ensures.0
 
 pub returns-in_err-add_band-4-clause-count : goal.returns-in_err-add_band-4-clause-count
-returns-in_err-add_band-4-clause-count c = unmade _ c.from_residual-in_err-add_band-4.result c.from_residual-in_err-add_band-4.ensures.0
+returns-in_err-add_band-4-clause-count c = IfOk-from_err c.from_residual-in_err-add_band-4.result _ c.from_residual-in_err-add_band-4.ensures.0
 
 pub returns-in_err-add_band-5-clause-built : goal.returns-in_err-add_band-5-clause-built
-returns-in_err-add_band-5-clause-built c = unmade _ c.from_residual-in_err-add_band-5.result c.from_residual-in_err-add_band-5.ensures.0
+returns-in_err-add_band-5-clause-built c = IfOk-from_err c.from_residual-in_err-add_band-5.result _ c.from_residual-in_err-add_band-5.ensures.0
 
 pub returns-in_err-add_band-5-clause-grows : goal.returns-in_err-add_band-5-clause-grows
-returns-in_err-add_band-5-clause-grows c = unmade _ c.from_residual-in_err-add_band-5.result c.from_residual-in_err-add_band-5.ensures.0
+returns-in_err-add_band-5-clause-grows c = IfOk-from_err c.from_residual-in_err-add_band-5.result _ c.from_residual-in_err-add_band-5.ensures.0
 
 pub returns-in_err-add_band-5-clause-closed : goal.returns-in_err-add_band-5-clause-closed
-returns-in_err-add_band-5-clause-closed c = unmade _ c.from_residual-in_err-add_band-5.result c.from_residual-in_err-add_band-5.ensures.0
+returns-in_err-add_band-5-clause-closed c = IfOk-from_err c.from_residual-in_err-add_band-5.result _ c.from_residual-in_err-add_band-5.ensures.0
 
 pub returns-in_err-add_band-5-clause-count : goal.returns-in_err-add_band-5-clause-count
-returns-in_err-add_band-5-clause-count c = unmade _ c.from_residual-in_err-add_band-5.result c.from_residual-in_err-add_band-5.ensures.0
+returns-in_err-add_band-5-clause-count c = IfOk-from_err c.from_residual-in_err-add_band-5.result _ c.from_residual-in_err-add_band-5.ensures.0
 
 pub returns-in_err-id-clause-built : goal.returns-in_err-id-clause-built
-returns-in_err-id-clause-built c = unmade _ c.from_residual-in_err-id.result c.from_residual-in_err-id.ensures.0
+returns-in_err-id-clause-built c = IfOk-from_err c.from_residual-in_err-id.result _ c.from_residual-in_err-id.ensures.0
 
 pub returns-in_err-id-clause-grows : goal.returns-in_err-id-clause-grows
-returns-in_err-id-clause-grows c = unmade _ c.from_residual-in_err-id.result c.from_residual-in_err-id.ensures.0
+returns-in_err-id-clause-grows c = IfOk-from_err c.from_residual-in_err-id.result _ c.from_residual-in_err-id.ensures.0
 
 pub returns-in_err-id-clause-closed : goal.returns-in_err-id-clause-closed
-returns-in_err-id-clause-closed c = unmade _ c.from_residual-in_err-id.result c.from_residual-in_err-id.ensures.0
+returns-in_err-id-clause-closed c = IfOk-from_err c.from_residual-in_err-id.result _ c.from_residual-in_err-id.ensures.0
 
 pub returns-in_err-id-clause-count : goal.returns-in_err-id-clause-count
-returns-in_err-id-clause-count c = unmade _ c.from_residual-in_err-id.result c.from_residual-in_err-id.ensures.0
+returns-in_err-id-clause-count c = IfOk-from_err c.from_residual-in_err-id.result _ c.from_residual-in_err-id.ensures.0

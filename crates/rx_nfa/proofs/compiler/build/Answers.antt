@@ -1,4 +1,5 @@
 use Rattle.std.proofs.Common.{◌≡◌, ◌∙◌, sym, ap, subst, refl, arith, length}
+use Rattle.std.proofs.lemmas.Result.{IfOk-from_err}
 use Rattle.std.proofs.lemmas.List.{length-map}
 use Rattle.std.specs.Prelude.{true, false, All, None as Absent}
 use Rattle.std.proofs.lemmas.List.Elements.{All-weaker}
@@ -20,7 +21,6 @@ use Rattle.rx_nfa.proofs.lemmas.parts.SlotLemmas.{written-within}
 use Rattle.rx_nfa.proofs.lemmas.reverse.ReverseLemmas.{HasReverseRuns-from}
 use Rattle.rx_nfa.specs.Prefixes.{HasSameRuns}
 use Rattle.rx_nfa.proofs.lemmas.prefixes.SharedLemmas.{with_states, HasRuns-shared, HasReverseRuns-shared}
-use Rattle.rx_nfa.proofs.lemmas.parts.UnmadeLemmas.{unmade}
 use Rattle.rx_nfa.proofs.compiler.build.Goals as goal
 
 pub finish-requires-clause-slots : goal.finish-requires-clause-slots
@@ -170,16 +170,16 @@ returns c =
     }
 
 pub returns-in_err-group_info : goal.returns-in_err-group_info
-returns-in_err-group_info c = unmade _ c.from_residual.result c.from_residual.ensures.0
+returns-in_err-group_info c = IfOk-from_err c.from_residual.result _ c.from_residual.ensures.0
 
 pub returns-in_err-starts : goal.returns-in_err-starts
-returns-in_err-starts c = unmade _ c.from_residual-in_err-starts.result c.from_residual-in_err-starts.ensures.0
+returns-in_err-starts c = IfOk-from_err c.from_residual-in_err-starts.result _ c.from_residual-in_err-starts.ensures.0
 
 pub returns-in_err-start : goal.returns-in_err-start
-returns-in_err-start c = unmade _ c.from_residual-in_err-start.result c.from_residual-in_err-start.ensures.0
+returns-in_err-start c = IfOk-from_err c.from_residual-in_err-start.result _ c.from_residual-in_err-start.ensures.0
 
 pub returns-in_err-share_prefixes : goal.returns-in_err-share_prefixes
-returns-in_err-share_prefixes c = unmade _ c.from_residual-in_err-share_prefixes.result c.from_residual-in_err-share_prefixes.ensures.0
+returns-in_err-share_prefixes c = IfOk-from_err c.from_residual-in_err-share_prefixes.result _ c.from_residual-in_err-share_prefixes.ensures.0
 
 pub returns-in_err-nfa : goal.returns-in_err-nfa
-returns-in_err-nfa c = unmade _ c.from_residual-in_err-nfa.result c.from_residual-in_err-nfa.ensures.0
+returns-in_err-nfa c = IfOk-from_err c.from_residual-in_err-nfa.result _ c.from_residual-in_err-nfa.ensures.0

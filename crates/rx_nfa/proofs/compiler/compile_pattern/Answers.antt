@@ -1,4 +1,5 @@
 use Rattle.std.proofs.Common.{◌<◌, ◌∙◌, sym, ap, subst, arith, length}
+use Rattle.std.proofs.lemmas.Result.{IfOk-from_err}
 use Rattle.std.proofs.lemmas.List.{length_push}
 use Rattle.std.specs.Prelude.{IfSome}
 use Rattle.rx_model.specs.Graph.{build_state}
@@ -14,7 +15,6 @@ use Rattle.rx_nfa.proofs.lemmas.parts.CompileLemmas.{HasRoom-kept}
 use Rattle.rx_nfa.proofs.lemmas.runs.GroupLemmas.{whole-own, whole-own-last}
 use Rattle.rx_nfa.proofs.lemmas.runs.PatternLemmas.{HasPart-pattern}
 use Rattle.rx_nfa.proofs.lemmas.parts.SlotLemmas.{Built-bounds}
-use Rattle.rx_nfa.proofs.lemmas.parts.UnmadeLemmas.{unmade}
 use Rattle.rx_nfa.proofs.compiler.compile_pattern.Goals as goal
 
 pub returns-clause-has : goal.returns-clause-has
@@ -73,76 +73,76 @@ returns-clause-accepted c =
     omega arith
 
 pub returns-in_err-accept-clause-extends : goal.returns-in_err-accept-clause-extends
-returns-in_err-accept-clause-extends c = unmade _ c.from_residual.result c.from_residual.ensures.0
+returns-in_err-accept-clause-extends c = IfOk-from_err c.from_residual.result _ c.from_residual.ensures.0
 
 pub returns-in_err-accept-clause-accepted : goal.returns-in_err-accept-clause-accepted
-returns-in_err-accept-clause-accepted c = unmade _ c.from_residual.result c.from_residual.ensures.0
+returns-in_err-accept-clause-accepted c = IfOk-from_err c.from_residual.result _ c.from_residual.ensures.0
 
 pub returns-in_err-accept-clause-has : goal.returns-in_err-accept-clause-has
-returns-in_err-accept-clause-has c = unmade _ c.from_residual.result c.from_residual.ensures.0
+returns-in_err-accept-clause-has c = IfOk-from_err c.from_residual.result _ c.from_residual.ensures.0
 
 pub returns-in_err-accept-clause-inside : goal.returns-in_err-accept-clause-inside
-returns-in_err-accept-clause-inside c = unmade _ c.from_residual.result c.from_residual.ensures.0
+returns-in_err-accept-clause-inside c = IfOk-from_err c.from_residual.result _ c.from_residual.ensures.0
 
 pub returns-in_err-accept-clause-count : goal.returns-in_err-accept-clause-count
-returns-in_err-accept-clause-count c = unmade _ c.from_residual.result c.from_residual.ensures.0
+returns-in_err-accept-clause-count c = IfOk-from_err c.from_residual.result _ c.from_residual.ensures.0
 
 pub returns-in_err-accept-clause-sound : goal.returns-in_err-accept-clause-sound
-returns-in_err-accept-clause-sound c = unmade _ c.from_residual.result c.from_residual.ensures.0
+returns-in_err-accept-clause-sound c = IfOk-from_err c.from_residual.result _ c.from_residual.ensures.0
 
 pub returns-in_err-close-clause-extends : goal.returns-in_err-close-clause-extends
-returns-in_err-close-clause-extends c = unmade _ c.from_residual-in_err-close.result c.from_residual-in_err-close.ensures.0
+returns-in_err-close-clause-extends c = IfOk-from_err c.from_residual-in_err-close.result _ c.from_residual-in_err-close.ensures.0
 
 pub returns-in_err-close-clause-accepted : goal.returns-in_err-close-clause-accepted
-returns-in_err-close-clause-accepted c = unmade _ c.from_residual-in_err-close.result c.from_residual-in_err-close.ensures.0
+returns-in_err-close-clause-accepted c = IfOk-from_err c.from_residual-in_err-close.result _ c.from_residual-in_err-close.ensures.0
 
 pub returns-in_err-close-clause-has : goal.returns-in_err-close-clause-has
-returns-in_err-close-clause-has c = unmade _ c.from_residual-in_err-close.result c.from_residual-in_err-close.ensures.0
+returns-in_err-close-clause-has c = IfOk-from_err c.from_residual-in_err-close.result _ c.from_residual-in_err-close.ensures.0
 
 pub returns-in_err-close-clause-inside : goal.returns-in_err-close-clause-inside
-returns-in_err-close-clause-inside c = unmade _ c.from_residual-in_err-close.result c.from_residual-in_err-close.ensures.0
+returns-in_err-close-clause-inside c = IfOk-from_err c.from_residual-in_err-close.result _ c.from_residual-in_err-close.ensures.0
 
 pub returns-in_err-close-clause-count : goal.returns-in_err-close-clause-count
-returns-in_err-close-clause-count c = unmade _ c.from_residual-in_err-close.result c.from_residual-in_err-close.ensures.0
+returns-in_err-close-clause-count c = IfOk-from_err c.from_residual-in_err-close.result _ c.from_residual-in_err-close.ensures.0
 
 pub returns-in_err-close-clause-sound : goal.returns-in_err-close-clause-sound
-returns-in_err-close-clause-sound c = unmade _ c.from_residual-in_err-close.result c.from_residual-in_err-close.ensures.0
+returns-in_err-close-clause-sound c = IfOk-from_err c.from_residual-in_err-close.result _ c.from_residual-in_err-close.ensures.0
 
 pub returns-in_err-body-clause-extends : goal.returns-in_err-body-clause-extends
-returns-in_err-body-clause-extends c = unmade _ c.from_residual-in_err-body.result c.from_residual-in_err-body.ensures.0
+returns-in_err-body-clause-extends c = IfOk-from_err c.from_residual-in_err-body.result _ c.from_residual-in_err-body.ensures.0
 
 pub returns-in_err-body-clause-accepted : goal.returns-in_err-body-clause-accepted
-returns-in_err-body-clause-accepted c = unmade _ c.from_residual-in_err-body.result c.from_residual-in_err-body.ensures.0
+returns-in_err-body-clause-accepted c = IfOk-from_err c.from_residual-in_err-body.result _ c.from_residual-in_err-body.ensures.0
 
 pub returns-in_err-body-clause-has : goal.returns-in_err-body-clause-has
-returns-in_err-body-clause-has c = unmade _ c.from_residual-in_err-body.result c.from_residual-in_err-body.ensures.0
+returns-in_err-body-clause-has c = IfOk-from_err c.from_residual-in_err-body.result _ c.from_residual-in_err-body.ensures.0
 
 pub returns-in_err-body-clause-inside : goal.returns-in_err-body-clause-inside
-returns-in_err-body-clause-inside c = unmade _ c.from_residual-in_err-body.result c.from_residual-in_err-body.ensures.0
+returns-in_err-body-clause-inside c = IfOk-from_err c.from_residual-in_err-body.result _ c.from_residual-in_err-body.ensures.0
 
 pub returns-in_err-body-clause-count : goal.returns-in_err-body-clause-count
-returns-in_err-body-clause-count c = unmade _ c.from_residual-in_err-body.result c.from_residual-in_err-body.ensures.0
+returns-in_err-body-clause-count c = IfOk-from_err c.from_residual-in_err-body.result _ c.from_residual-in_err-body.ensures.0
 
 pub returns-in_err-body-clause-sound : goal.returns-in_err-body-clause-sound
-returns-in_err-body-clause-sound c = unmade _ c.from_residual-in_err-body.result c.from_residual-in_err-body.ensures.0
+returns-in_err-body-clause-sound c = IfOk-from_err c.from_residual-in_err-body.result _ c.from_residual-in_err-body.ensures.0
 
 pub returns-in_err-open-clause-extends : goal.returns-in_err-open-clause-extends
-returns-in_err-open-clause-extends c = unmade _ c.from_residual-in_err-open.result c.from_residual-in_err-open.ensures.0
+returns-in_err-open-clause-extends c = IfOk-from_err c.from_residual-in_err-open.result _ c.from_residual-in_err-open.ensures.0
 
 pub returns-in_err-open-clause-accepted : goal.returns-in_err-open-clause-accepted
-returns-in_err-open-clause-accepted c = unmade _ c.from_residual-in_err-open.result c.from_residual-in_err-open.ensures.0
+returns-in_err-open-clause-accepted c = IfOk-from_err c.from_residual-in_err-open.result _ c.from_residual-in_err-open.ensures.0
 
 pub returns-in_err-open-clause-has : goal.returns-in_err-open-clause-has
-returns-in_err-open-clause-has c = unmade _ c.from_residual-in_err-open.result c.from_residual-in_err-open.ensures.0
+returns-in_err-open-clause-has c = IfOk-from_err c.from_residual-in_err-open.result _ c.from_residual-in_err-open.ensures.0
 
 pub returns-in_err-open-clause-inside : goal.returns-in_err-open-clause-inside
-returns-in_err-open-clause-inside c = unmade _ c.from_residual-in_err-open.result c.from_residual-in_err-open.ensures.0
+returns-in_err-open-clause-inside c = IfOk-from_err c.from_residual-in_err-open.result _ c.from_residual-in_err-open.ensures.0
 
 pub returns-in_err-open-clause-count : goal.returns-in_err-open-clause-count
-returns-in_err-open-clause-count c = unmade _ c.from_residual-in_err-open.result c.from_residual-in_err-open.ensures.0
+returns-in_err-open-clause-count c = IfOk-from_err c.from_residual-in_err-open.result _ c.from_residual-in_err-open.ensures.0
 
 pub returns-in_err-open-clause-sound : goal.returns-in_err-open-clause-sound
-returns-in_err-open-clause-sound c = unmade _ c.from_residual-in_err-open.result c.from_residual-in_err-open.ensures.0
+returns-in_err-open-clause-sound c = IfOk-from_err c.from_residual-in_err-open.result _ c.from_residual-in_err-open.ensures.0
 
 pub returns-clause-inside : goal.returns-clause-inside
 returns-clause-inside c = c.in_ok-open.ensures.inside

@@ -1,4 +1,5 @@
 use Rattle.std.proofs.Common.{◌≡◌, ◌+◌, ◌*◌, ◌<◌, ◌≤◌, ◌∙◌, suc, sym, ap, subst, arith, length, [], ◌∷◌}
+use Rattle.std.proofs.lemmas.Result.{IfOk-from_err}
 use Rattle.std.proofs.lemmas.List.{length-append, length-map}
 use Rattle.std.proofs.lemmas.Option.{slice_get_within}
 use Rattle.std.specs.Prelude.{true, IfSome, option_map}
@@ -16,7 +17,6 @@ use Rattle.rx_nfa.proofs.lemmas.parts.CompileLemmas.{below-more}
 use Rattle.rx_nfa.proofs.lemmas.runs.GroupLemmas.{groups_at-names, first_slot-group}
 use Rattle.rx_nfa.proofs.lemmas.runs.PatternLemmas.{HasParts-more, sound-more}
 use Rattle.rx_nfa.proofs.lemmas.parts.SlotLemmas.{groups-inside, groups-there, whole-inside, whole-is, written-within, first_slot-more, part-is, room-more}
-use Rattle.rx_nfa.proofs.lemmas.parts.UnmadeLemmas.{unmade}
 use Rattle.rx_nfa.proofs.compiler.compile_patterns.Goals as goal
 
 pub compile_pattern-requires-clause-room : goal.compile_pattern-requires-clause-room
@@ -136,40 +136,40 @@ compile_pattern-requires-clause-new c =
     omega arith
 
 pub returns-in_err-start-clause-extends : goal.returns-in_err-start-clause-extends
-returns-in_err-start-clause-extends c = unmade _ c.from_residual.result c.from_residual.ensures.0
+returns-in_err-start-clause-extends c = IfOk-from_err c.from_residual.result _ c.from_residual.ensures.0
 
 pub returns-in_err-start-clause-len : goal.returns-in_err-start-clause-len
-returns-in_err-start-clause-len c = unmade _ c.from_residual.result c.from_residual.ensures.0
+returns-in_err-start-clause-len c = IfOk-from_err c.from_residual.result _ c.from_residual.ensures.0
 
 pub returns-in_err-start-clause-has : goal.returns-in_err-start-clause-has
-returns-in_err-start-clause-has c = unmade _ c.from_residual.result c.from_residual.ensures.0
+returns-in_err-start-clause-has c = IfOk-from_err c.from_residual.result _ c.from_residual.ensures.0
 
 pub returns-in_err-start-clause-inside : goal.returns-in_err-start-clause-inside
-returns-in_err-start-clause-inside c = unmade _ c.from_residual.result c.from_residual.ensures.0
+returns-in_err-start-clause-inside c = IfOk-from_err c.from_residual.result _ c.from_residual.ensures.0
 
 pub returns-in_err-start-clause-count : goal.returns-in_err-start-clause-count
-returns-in_err-start-clause-count c = unmade _ c.from_residual.result c.from_residual.ensures.0
+returns-in_err-start-clause-count c = IfOk-from_err c.from_residual.result _ c.from_residual.ensures.0
 
 pub returns-in_err-start-clause-sound : goal.returns-in_err-start-clause-sound
-returns-in_err-start-clause-sound c = unmade _ c.from_residual.result c.from_residual.ensures.0
+returns-in_err-start-clause-sound c = IfOk-from_err c.from_residual.result _ c.from_residual.ensures.0
 
 pub returns-in_err-push-clause-extends : goal.returns-in_err-push-clause-extends
-returns-in_err-push-clause-extends c = unmade _ c.from_residual-in_err-push.result c.from_residual-in_err-push.ensures.0
+returns-in_err-push-clause-extends c = IfOk-from_err c.from_residual-in_err-push.result _ c.from_residual-in_err-push.ensures.0
 
 pub returns-in_err-push-clause-len : goal.returns-in_err-push-clause-len
-returns-in_err-push-clause-len c = unmade _ c.from_residual-in_err-push.result c.from_residual-in_err-push.ensures.0
+returns-in_err-push-clause-len c = IfOk-from_err c.from_residual-in_err-push.result _ c.from_residual-in_err-push.ensures.0
 
 pub returns-in_err-push-clause-has : goal.returns-in_err-push-clause-has
-returns-in_err-push-clause-has c = unmade _ c.from_residual-in_err-push.result c.from_residual-in_err-push.ensures.0
+returns-in_err-push-clause-has c = IfOk-from_err c.from_residual-in_err-push.result _ c.from_residual-in_err-push.ensures.0
 
 pub returns-in_err-push-clause-inside : goal.returns-in_err-push-clause-inside
-returns-in_err-push-clause-inside c = unmade _ c.from_residual-in_err-push.result c.from_residual-in_err-push.ensures.0
+returns-in_err-push-clause-inside c = IfOk-from_err c.from_residual-in_err-push.result _ c.from_residual-in_err-push.ensures.0
 
 pub returns-in_err-push-clause-count : goal.returns-in_err-push-clause-count
-returns-in_err-push-clause-count c = unmade _ c.from_residual-in_err-push.result c.from_residual-in_err-push.ensures.0
+returns-in_err-push-clause-count c = IfOk-from_err c.from_residual-in_err-push.result _ c.from_residual-in_err-push.ensures.0
 
 pub returns-in_err-push-clause-sound : goal.returns-in_err-push-clause-sound
-returns-in_err-push-clause-sound c = unmade _ c.from_residual-in_err-push.result c.from_residual-in_err-push.ensures.0
+returns-in_err-push-clause-sound c = IfOk-from_err c.from_residual-in_err-push.result _ c.from_residual-in_err-push.ensures.0
 
 pub returns-clause-extends : goal.returns-clause-extends
 returns-clause-extends c = c.loop-hir.invariant.extends

@@ -1,24 +1,24 @@
 use Rattle.std.proofs.Common.{refl}
-use Rattle.rx_nfa.proofs.lemmas.parts.UnmadeLemmas.{unmade}
+use Rattle.std.proofs.lemmas.Result.{IfOk-from_err}
 use Rattle.rx_nfa.proofs.compiler.start_of_all.Goals as goal
 
 pub returns-in_err-from_slice-clause-starts : goal.returns-in_err-from_slice-clause-starts
-returns-in_err-from_slice-clause-starts c = unmade _ c.from_residual.result c.from_residual.ensures.0
+returns-in_err-from_slice-clause-starts c = IfOk-from_err c.from_residual.result _ c.from_residual.ensures.0
 
 pub returns-in_err-from_slice-clause-count : goal.returns-in_err-from_slice-clause-count
-returns-in_err-from_slice-clause-count c = unmade _ c.from_residual.result c.from_residual.ensures.0
+returns-in_err-from_slice-clause-count c = IfOk-from_err c.from_residual.result _ c.from_residual.ensures.0
 
 pub returns-in_err-from_slice-clause-inside : goal.returns-in_err-from_slice-clause-inside
-returns-in_err-from_slice-clause-inside c = unmade _ c.from_residual.result c.from_residual.ensures.0
+returns-in_err-from_slice-clause-inside c = IfOk-from_err c.from_residual.result _ c.from_residual.ensures.0
 
 pub returns-in_err-start-clause-starts : goal.returns-in_err-start-clause-starts
-returns-in_err-start-clause-starts c = unmade _ c.from_residual-in_err-start.result c.from_residual-in_err-start.ensures.0
+returns-in_err-start-clause-starts c = IfOk-from_err c.from_residual-in_err-start.result _ c.from_residual-in_err-start.ensures.0
 
 pub returns-in_err-start-clause-count : goal.returns-in_err-start-clause-count
-returns-in_err-start-clause-count c = unmade _ c.from_residual-in_err-start.result c.from_residual-in_err-start.ensures.0
+returns-in_err-start-clause-count c = IfOk-from_err c.from_residual-in_err-start.result _ c.from_residual-in_err-start.ensures.0
 
 pub returns-in_err-start-clause-inside : goal.returns-in_err-start-clause-inside
-returns-in_err-start-clause-inside c = unmade _ c.from_residual-in_err-start.result c.from_residual-in_err-start.ensures.0
+returns-in_err-start-clause-inside c = IfOk-from_err c.from_residual-in_err-start.result _ c.from_residual-in_err-start.ensures.0
 
 pub push-requires-clause-room : goal.push-requires-clause-room
 push-requires-clause-room c = c.requires.fits

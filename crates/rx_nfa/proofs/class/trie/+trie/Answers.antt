@@ -1,4 +1,5 @@
 use Rattle.std.proofs.Common.{slice_index, ◌≡◌, ◌≤◌, ◌+◌, ◌*◌, ◌-◌, sym, subst, arith, true, length, mul-le-mul_right, []}
+use Rattle.std.proofs.lemmas.Result.{IfOk-from_err}
 use Rattle.std.specs.Prelude.{Some}
 use Rattle.std.proofs.lemmas.Grind.{common_steps}
 use Rattle.rx_model.specs.Text.{is_member}
@@ -9,7 +10,6 @@ use Rattle.rx_nfa.specs.Trie.{IsBlock, IsRow}
 use Rattle.rx_nfa.proofs.lemmas.classes.RowLemmas.{Ascends-more, IsReader-grows, IsReader-lower, AddsReaders-same, AddsReaders-trans, RoutesBelow-none}
 use Rattle.rx_nfa.proofs.lemmas.classes.RangesLemmas.{size_of_block-pos, size_of_block-suc, IsRest-same, IsRest-trans, IsRest-later}
 use Rattle.rx_nfa.proofs.lemmas.classes.BlockLemmas.{IsRow-none, IsRow-map, IsBlock-same, IsBlock-none, IsBlock-row, IsRow-next, IsReady-grows, aligned-part, aligned-at, aligned-64, HasEnd-deep, HasEnd-counts, covered-depth, CoversUpTo-less, count-one, count-next, count-within, row-below}
-use Rattle.rx_nfa.proofs.lemmas.parts.UnmadeLemmas.{unmade}
 use Rattle.rx_nfa.proofs.class.trie.+trie.Goals as goal
 
 pub block-coverage_of-requires-clause-some : goal.block-coverage_of-requires-clause-some
@@ -234,31 +234,31 @@ pub block-returns-in_ok-id-in-Part-clause-grows : goal.block-returns-in_ok-id-in
 block-returns-in_ok-id-in-Part-clause-grows t c = AddsReaders-trans _ _ _ c.in_ok-row-in-Part.ensures.grows c.in_ok-id-in-Part.ensures.grows
 
 pub row-returns-in_err-target-clause-grows : goal.row-returns-in_err-target-clause-grows
-row-returns-in_err-target-clause-grows t c = unmade _ c.from_residual.result c.from_residual.ensures.0
+row-returns-in_err-target-clause-grows t c = IfOk-from_err c.from_residual.result _ c.from_residual.ensures.0
 
 pub row-returns-in_err-target-clause-closed : goal.row-returns-in_err-target-clause-closed
-row-returns-in_err-target-clause-closed t c = unmade _ c.from_residual.result c.from_residual.ensures.0
+row-returns-in_err-target-clause-closed t c = IfOk-from_err c.from_residual.result _ c.from_residual.ensures.0
 
 pub row-returns-in_err-target-clause-ascends : goal.row-returns-in_err-target-clause-ascends
-row-returns-in_err-target-clause-ascends t c = unmade _ c.from_residual.result c.from_residual.ensures.0
+row-returns-in_err-target-clause-ascends t c = IfOk-from_err c.from_residual.result _ c.from_residual.ensures.0
 
 pub row-returns-in_err-target-clause-built : goal.row-returns-in_err-target-clause-built
-row-returns-in_err-target-clause-built t c = unmade _ c.from_residual.result c.from_residual.ensures.0
+row-returns-in_err-target-clause-built t c = IfOk-from_err c.from_residual.result _ c.from_residual.ensures.0
 
 pub row-returns-in_err-target-clause-count : goal.row-returns-in_err-target-clause-count
-row-returns-in_err-target-clause-count t c = unmade _ c.from_residual.result c.from_residual.ensures.0
+row-returns-in_err-target-clause-count t c = IfOk-from_err c.from_residual.result _ c.from_residual.ensures.0
 
 pub row-returns-in_err-add_target-clause-grows : goal.row-returns-in_err-add_target-clause-grows
-row-returns-in_err-add_target-clause-grows t c = unmade _ c.from_residual-in_err-add_target.result c.from_residual-in_err-add_target.ensures.0
+row-returns-in_err-add_target-clause-grows t c = IfOk-from_err c.from_residual-in_err-add_target.result _ c.from_residual-in_err-add_target.ensures.0
 
 pub row-returns-in_err-add_target-clause-closed : goal.row-returns-in_err-add_target-clause-closed
-row-returns-in_err-add_target-clause-closed t c = unmade _ c.from_residual-in_err-add_target.result c.from_residual-in_err-add_target.ensures.0
+row-returns-in_err-add_target-clause-closed t c = IfOk-from_err c.from_residual-in_err-add_target.result _ c.from_residual-in_err-add_target.ensures.0
 
 pub row-returns-in_err-add_target-clause-ascends : goal.row-returns-in_err-add_target-clause-ascends
-row-returns-in_err-add_target-clause-ascends t c = unmade _ c.from_residual-in_err-add_target.result c.from_residual-in_err-add_target.ensures.0
+row-returns-in_err-add_target-clause-ascends t c = IfOk-from_err c.from_residual-in_err-add_target.result _ c.from_residual-in_err-add_target.ensures.0
 
 pub row-returns-in_err-add_target-clause-built : goal.row-returns-in_err-add_target-clause-built
-row-returns-in_err-add_target-clause-built t c = unmade _ c.from_residual-in_err-add_target.result c.from_residual-in_err-add_target.ensures.0
+row-returns-in_err-add_target-clause-built t c = IfOk-from_err c.from_residual-in_err-add_target.result _ c.from_residual-in_err-add_target.ensures.0
 
 pub row-returns-in_err-add_target-clause-count : goal.row-returns-in_err-add_target-clause-count
-row-returns-in_err-add_target-clause-count t c = unmade _ c.from_residual-in_err-add_target.result c.from_residual-in_err-add_target.ensures.0
+row-returns-in_err-add_target-clause-count t c = IfOk-from_err c.from_residual-in_err-add_target.result _ c.from_residual-in_err-add_target.ensures.0

@@ -1,8 +1,8 @@
 use Rattle.std.proofs.Common.{◌≡◌, ◌+◌, ◌++◌, ◌∷◌, [], ap, arith, length, get_or, take}
+use Rattle.std.proofs.lemmas.Result.{IfOk-from_err}
 use Rattle.rx_nfa.specs.Ranges.{whole_depths}
 use Rattle.rx_nfa.proofs.lemmas.classes.RowLemmas.{AddsReaders-same, AddsReaders-trans}
 use Rattle.rx_nfa.proofs.lemmas.classes.RangesLemmas.{CoversUpTo-nil, CoversUpTo-more, CoversUpTo-push, whole_depths-push, whole_depths-take, whole_depth-le, take-next, RisesFrom-at, StaysBelow-at}
-use Rattle.rx_nfa.proofs.lemmas.parts.UnmadeLemmas.{unmade}
 use Rattle.rx_nfa.proofs.class.trie.deepen.Goals as goal
 
 pub loop-range-init : goal.loop-range-init
@@ -67,22 +67,22 @@ loop-range-preserved c =
     }
 
 pub returns-in_err-reach-clause-some : goal.returns-in_err-reach-clause-some
-returns-in_err-reach-clause-some c = unmade _ c.from_residual.result c.from_residual.ensures.0
+returns-in_err-reach-clause-some c = IfOk-from_err c.from_residual.result _ c.from_residual.ensures.0
 
 pub returns-in_err-reach-clause-grows : goal.returns-in_err-reach-clause-grows
-returns-in_err-reach-clause-grows c = unmade _ c.from_residual.result c.from_residual.ensures.0
+returns-in_err-reach-clause-grows c = IfOk-from_err c.from_residual.result _ c.from_residual.ensures.0
 
 pub returns-in_err-reach-clause-closed : goal.returns-in_err-reach-clause-closed
-returns-in_err-reach-clause-closed c = unmade _ c.from_residual.result c.from_residual.ensures.0
+returns-in_err-reach-clause-closed c = IfOk-from_err c.from_residual.result _ c.from_residual.ensures.0
 
 pub returns-in_err-reach-clause-ready : goal.returns-in_err-reach-clause-ready
-returns-in_err-reach-clause-ready c = unmade _ c.from_residual.result c.from_residual.ensures.0
+returns-in_err-reach-clause-ready c = IfOk-from_err c.from_residual.result _ c.from_residual.ensures.0
 
 pub returns-in_err-reach-clause-enough : goal.returns-in_err-reach-clause-enough
-returns-in_err-reach-clause-enough c = unmade _ c.from_residual.result c.from_residual.ensures.0
+returns-in_err-reach-clause-enough c = IfOk-from_err c.from_residual.result _ c.from_residual.ensures.0
 
 pub returns-in_err-reach-clause-count : goal.returns-in_err-reach-clause-count
-returns-in_err-reach-clause-count c = unmade _ c.from_residual.result c.from_residual.ensures.0
+returns-in_err-reach-clause-count c = IfOk-from_err c.from_residual.result _ c.from_residual.ensures.0
 
 pub reach-requires-clause-some : goal.reach-requires-clause-some
 reach-requires-clause-some c = c.loop-range.invariant.some

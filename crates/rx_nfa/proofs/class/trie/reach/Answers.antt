@@ -1,9 +1,9 @@
 use Rattle.std.proofs.Common.{◌≡◌, ◌≤◌, ◌+◌, ◌-◌, ◌∷◌, [], ◌∙◌, ap, arith, length, slice_index}
+use Rattle.std.proofs.lemmas.Result.{IfOk-from_err}
 use Rattle.std.proofs.lemmas.Grind.{common_steps}
 use Rattle.std.proofs.lemmas.List.{length_push}
 use Rattle.rx_nfa.proofs.lemmas.classes.RowLemmas.{AddsReaders-trans, RoutesBelow-one}
 use Rattle.rx_nfa.proofs.lemmas.classes.BlockLemmas.{IsReady-push, whole-inside}
-use Rattle.rx_nfa.proofs.lemmas.parts.UnmadeLemmas.{unmade}
 use Rattle.rx_nfa.proofs.class.trie.reach.Goals as goal
 
 pub loop-alloc-preserved : goal.loop-alloc-preserved
@@ -37,46 +37,46 @@ loop-alloc-preserved c =
     }
 
 pub returns-in_err-push-clause-longer : goal.returns-in_err-push-clause-longer
-returns-in_err-push-clause-longer c = unmade _ c.from_residual.result c.from_residual.ensures.0
+returns-in_err-push-clause-longer c = IfOk-from_err c.from_residual.result _ c.from_residual.ensures.0
 
 pub returns-in_err-push-clause-grows : goal.returns-in_err-push-clause-grows
-returns-in_err-push-clause-grows c = unmade _ c.from_residual.result c.from_residual.ensures.0
+returns-in_err-push-clause-grows c = IfOk-from_err c.from_residual.result _ c.from_residual.ensures.0
 
 pub returns-in_err-push-clause-closed : goal.returns-in_err-push-clause-closed
-returns-in_err-push-clause-closed c = unmade _ c.from_residual.result c.from_residual.ensures.0
+returns-in_err-push-clause-closed c = IfOk-from_err c.from_residual.result _ c.from_residual.ensures.0
 
 pub returns-in_err-push-clause-ready : goal.returns-in_err-push-clause-ready
-returns-in_err-push-clause-ready c = unmade _ c.from_residual.result c.from_residual.ensures.0
+returns-in_err-push-clause-ready c = IfOk-from_err c.from_residual.result _ c.from_residual.ensures.0
 
 pub returns-in_err-push-clause-count : goal.returns-in_err-push-clause-count
-returns-in_err-push-clause-count c = unmade _ c.from_residual.result c.from_residual.ensures.0
+returns-in_err-push-clause-count c = IfOk-from_err c.from_residual.result _ c.from_residual.ensures.0
 
 pub returns-in_err-id-clause-longer : goal.returns-in_err-id-clause-longer
-returns-in_err-id-clause-longer c = unmade _ c.from_residual-in_err-id.result c.from_residual-in_err-id.ensures.0
+returns-in_err-id-clause-longer c = IfOk-from_err c.from_residual-in_err-id.result _ c.from_residual-in_err-id.ensures.0
 
 pub returns-in_err-id-clause-grows : goal.returns-in_err-id-clause-grows
-returns-in_err-id-clause-grows c = unmade _ c.from_residual-in_err-id.result c.from_residual-in_err-id.ensures.0
+returns-in_err-id-clause-grows c = IfOk-from_err c.from_residual-in_err-id.result _ c.from_residual-in_err-id.ensures.0
 
 pub returns-in_err-id-clause-closed : goal.returns-in_err-id-clause-closed
-returns-in_err-id-clause-closed c = unmade _ c.from_residual-in_err-id.result c.from_residual-in_err-id.ensures.0
+returns-in_err-id-clause-closed c = IfOk-from_err c.from_residual-in_err-id.result _ c.from_residual-in_err-id.ensures.0
 
 pub returns-in_err-id-clause-ready : goal.returns-in_err-id-clause-ready
-returns-in_err-id-clause-ready c = unmade _ c.from_residual-in_err-id.result c.from_residual-in_err-id.ensures.0
+returns-in_err-id-clause-ready c = IfOk-from_err c.from_residual-in_err-id.result _ c.from_residual-in_err-id.ensures.0
 
 pub returns-in_err-id-clause-count : goal.returns-in_err-id-clause-count
-returns-in_err-id-clause-count c = unmade _ c.from_residual-in_err-id.result c.from_residual-in_err-id.ensures.0
+returns-in_err-id-clause-count c = IfOk-from_err c.from_residual-in_err-id.result _ c.from_residual-in_err-id.ensures.0
 
 pub returns-in_err-push-2-clause-longer : goal.returns-in_err-push-2-clause-longer
-returns-in_err-push-2-clause-longer c = unmade _ c.from_residual-in_err-push-2.result c.from_residual-in_err-push-2.ensures.0
+returns-in_err-push-2-clause-longer c = IfOk-from_err c.from_residual-in_err-push-2.result _ c.from_residual-in_err-push-2.ensures.0
 
 pub returns-in_err-push-2-clause-grows : goal.returns-in_err-push-2-clause-grows
-returns-in_err-push-2-clause-grows c = unmade _ c.from_residual-in_err-push-2.result c.from_residual-in_err-push-2.ensures.0
+returns-in_err-push-2-clause-grows c = IfOk-from_err c.from_residual-in_err-push-2.result _ c.from_residual-in_err-push-2.ensures.0
 
 pub returns-in_err-push-2-clause-closed : goal.returns-in_err-push-2-clause-closed
-returns-in_err-push-2-clause-closed c = unmade _ c.from_residual-in_err-push-2.result c.from_residual-in_err-push-2.ensures.0
+returns-in_err-push-2-clause-closed c = IfOk-from_err c.from_residual-in_err-push-2.result _ c.from_residual-in_err-push-2.ensures.0
 
 pub returns-in_err-push-2-clause-ready : goal.returns-in_err-push-2-clause-ready
-returns-in_err-push-2-clause-ready c = unmade _ c.from_residual-in_err-push-2.result c.from_residual-in_err-push-2.ensures.0
+returns-in_err-push-2-clause-ready c = IfOk-from_err c.from_residual-in_err-push-2.result _ c.from_residual-in_err-push-2.ensures.0
 
 pub returns-in_err-push-2-clause-count : goal.returns-in_err-push-2-clause-count
-returns-in_err-push-2-clause-count c = unmade _ c.from_residual-in_err-push-2.result c.from_residual-in_err-push-2.ensures.0
+returns-in_err-push-2-clause-count c = IfOk-from_err c.from_residual-in_err-push-2.result _ c.from_residual-in_err-push-2.ensures.0

@@ -1,10 +1,10 @@
 use Rattle.std.proofs.Common.{◌≡◌, ◌≤◌, ◌<◌, ◌∙◌, refl, sym, subst, arith, length}
+use Rattle.std.proofs.lemmas.Result.{IfOk-from_err}
 use Rattle.std.specs.Prelude.{All}
 use Rattle.std.proofs.lemmas.List.Elements.{All-weaker}
 use Rattle.rx_nfa.specs.Automaton.{state_at}
 use Rattle.rx_nfa.specs.Named.{Spans, last_in}
 use Rattle.rx_nfa.specs.Prefixes.{LeadsInto}
-use Rattle.rx_nfa.proofs.lemmas.parts.UnmadeLemmas.{unmade}
 use Rattle.rx_nfa.proofs.lemmas.prefixes.NamedLemmas.{Widens-trans, leads-wider, named-next}
 use Rattle.rx_nfa.proofs.lemmas.runs.StateLemmas.{state-known}
 use Rattle.rx_nfa.proofs.prefixes.named.named_by.Goals as goal
@@ -30,13 +30,13 @@ returns-clause-starts c =
     All-weaker (Spans new all) (λ q. all ≤ last_in new q) (λ q s. s.1) c.args.starts.now c.note_each.ensures.spans
 
 pub returns-in_err-named-clause-named : goal.returns-in_err-named-clause-named
-returns-in_err-named-clause-named c = unmade _ c.from_residual.result c.from_residual.ensures.0
+returns-in_err-named-clause-named c = IfOk-from_err c.from_residual.result _ c.from_residual.ensures.0
 
 pub returns-in_err-named-clause-start : goal.returns-in_err-named-clause-start
-returns-in_err-named-clause-start c = unmade _ c.from_residual.result c.from_residual.ensures.0
+returns-in_err-named-clause-start c = IfOk-from_err c.from_residual.result _ c.from_residual.ensures.0
 
 pub returns-in_err-named-clause-starts : goal.returns-in_err-named-clause-starts
-returns-in_err-named-clause-starts c = unmade _ c.from_residual.result c.from_residual.ensures.0
+returns-in_err-named-clause-starts c = IfOk-from_err c.from_residual.result _ c.from_residual.ensures.0
 
 pub note-requires : goal.note-requires
 note-requires c = let long = c.loop-by.invariant.long in let start = c.requires.start in omega arith

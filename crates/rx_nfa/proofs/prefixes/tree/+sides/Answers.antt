@@ -1,4 +1,5 @@
 use Rattle.std.proofs.Common.{◌≡◌, ◌<◌, ◌+◌, ◌-◌, [], ◌∷◌, ◌++◌, ◌∙◌, sym, ap, subst, arith, length, take, drop}
+use Rattle.std.proofs.lemmas.Result.{IfOk-from_err}
 use Rattle.std.specs.Prelude.{All, map}
 use Rattle.std.specs.Vec.{vec_items}
 use Rattle.std.proofs.lemmas.List.{take_all, append_assoc}
@@ -7,7 +8,6 @@ use Rattle.rx_nfa.specs.Prefixes.{IsWord, rests}
 use Rattle.rx_nfa.specs.Row.{Ascends}
 use Rattle.rx_nfa.specs.Trees.{IsTargetOf, ReadsByTree, LeadsByTree}
 use Rattle.rx_nfa.proofs.lemmas.prefixes.GrowLemmas.{Grown-same, Grown-trans, reads-both, reads-grown, reads-nothing, rests-words, row-reads, reader-branch, led-targets, led-more, map-more, map-split, sub-words, between-none}
-use Rattle.rx_nfa.proofs.lemmas.parts.UnmadeLemmas.{unmade}
 use Rattle.rx_nfa.proofs.prefixes.tree.+sides.Goals as goal
 
 pub chunk-returns-then-levels-gt0-clause-reads : goal.chunk-returns-then-levels-gt0-clause-reads
@@ -167,142 +167,142 @@ pub chunk-branches-requires : goal.chunk-branches-requires
 chunk-branches-requires t c = (omega arith, (c.requires.tree, (c.requires.words, c.requires.long (omega arith))))
 
 pub sides-returns-in_err-from-clause-tree : goal.sides-returns-in_err-from-clause-tree
-sides-returns-in_err-from-clause-tree t c = unmade _ c.from_residual.result c.from_residual.ensures.0
+sides-returns-in_err-from-clause-tree t c = IfOk-from_err c.from_residual.result _ c.from_residual.ensures.0
 
 pub sides-returns-in_err-from-clause-grown : goal.sides-returns-in_err-from-clause-grown
-sides-returns-in_err-from-clause-grown t c = unmade _ c.from_residual.result c.from_residual.ensures.0
+sides-returns-in_err-from-clause-grown t c = IfOk-from_err c.from_residual.result _ c.from_residual.ensures.0
 
 pub sides-returns-in_err-from-clause-reads : goal.sides-returns-in_err-from-clause-reads
-sides-returns-in_err-from-clause-reads t c = unmade _ c.from_residual.result c.from_residual.ensures.0
+sides-returns-in_err-from-clause-reads t c = IfOk-from_err c.from_residual.result _ c.from_residual.ensures.0
 
 pub sides-returns-in_err-chunk-clause-tree : goal.sides-returns-in_err-chunk-clause-tree
-sides-returns-in_err-chunk-clause-tree t c = unmade _ c.from_residual-in_err-chunk.result c.from_residual-in_err-chunk.ensures.0
+sides-returns-in_err-chunk-clause-tree t c = IfOk-from_err c.from_residual-in_err-chunk.result _ c.from_residual-in_err-chunk.ensures.0
 
 pub sides-returns-in_err-chunk-clause-grown : goal.sides-returns-in_err-chunk-clause-grown
-sides-returns-in_err-chunk-clause-grown t c = unmade _ c.from_residual-in_err-chunk.result c.from_residual-in_err-chunk.ensures.0
+sides-returns-in_err-chunk-clause-grown t c = IfOk-from_err c.from_residual-in_err-chunk.result _ c.from_residual-in_err-chunk.ensures.0
 
 pub sides-returns-in_err-chunk-clause-reads : goal.sides-returns-in_err-chunk-clause-reads
-sides-returns-in_err-chunk-clause-reads t c = unmade _ c.from_residual-in_err-chunk.result c.from_residual-in_err-chunk.ensures.0
+sides-returns-in_err-chunk-clause-reads t c = IfOk-from_err c.from_residual-in_err-chunk.result _ c.from_residual-in_err-chunk.ensures.0
 
 pub end_chunk-returns-in_err-chunk-clause-tree : goal.end_chunk-returns-in_err-chunk-clause-tree
-end_chunk-returns-in_err-chunk-clause-tree t c = unmade _ c.from_residual.result c.from_residual.ensures.0
+end_chunk-returns-in_err-chunk-clause-tree t c = IfOk-from_err c.from_residual.result _ c.from_residual.ensures.0
 
 pub end_chunk-returns-in_err-chunk-clause-grown : goal.end_chunk-returns-in_err-chunk-clause-grown
-end_chunk-returns-in_err-chunk-clause-grown t c = unmade _ c.from_residual.result c.from_residual.ensures.0
+end_chunk-returns-in_err-chunk-clause-grown t c = IfOk-from_err c.from_residual.result _ c.from_residual.ensures.0
 
 pub end_chunk-returns-in_err-chunk-clause-reads : goal.end_chunk-returns-in_err-chunk-clause-reads
-end_chunk-returns-in_err-chunk-clause-reads t c = unmade _ c.from_residual.result c.from_residual.ensures.0
+end_chunk-returns-in_err-chunk-clause-reads t c = IfOk-from_err c.from_residual.result _ c.from_residual.ensures.0
 
 pub end_chunk-returns-in_err-chunk-clause-upto : goal.end_chunk-returns-in_err-chunk-clause-upto
-end_chunk-returns-in_err-chunk-clause-upto t c = unmade _ c.from_residual.result c.from_residual.ensures.0
+end_chunk-returns-in_err-chunk-clause-upto t c = IfOk-from_err c.from_residual.result _ c.from_residual.ensures.0
 
 pub end_chunk-returns-in_err-chunk-clause-long : goal.end_chunk-returns-in_err-chunk-clause-long
-end_chunk-returns-in_err-chunk-clause-long t c = unmade _ c.from_residual.result c.from_residual.ensures.0
+end_chunk-returns-in_err-chunk-clause-long t c = IfOk-from_err c.from_residual.result _ c.from_residual.ensures.0
 
 pub end_chunk-returns-in_err-chunk-2-clause-tree : goal.end_chunk-returns-in_err-chunk-2-clause-tree
-end_chunk-returns-in_err-chunk-2-clause-tree t c = unmade _ c.from_residual-in_err-chunk-2.result c.from_residual-in_err-chunk-2.ensures.0
+end_chunk-returns-in_err-chunk-2-clause-tree t c = IfOk-from_err c.from_residual-in_err-chunk-2.result _ c.from_residual-in_err-chunk-2.ensures.0
 
 pub end_chunk-returns-in_err-chunk-2-clause-grown : goal.end_chunk-returns-in_err-chunk-2-clause-grown
-end_chunk-returns-in_err-chunk-2-clause-grown t c = unmade _ c.from_residual-in_err-chunk-2.result c.from_residual-in_err-chunk-2.ensures.0
+end_chunk-returns-in_err-chunk-2-clause-grown t c = IfOk-from_err c.from_residual-in_err-chunk-2.result _ c.from_residual-in_err-chunk-2.ensures.0
 
 pub end_chunk-returns-in_err-chunk-2-clause-reads : goal.end_chunk-returns-in_err-chunk-2-clause-reads
-end_chunk-returns-in_err-chunk-2-clause-reads t c = unmade _ c.from_residual-in_err-chunk-2.result c.from_residual-in_err-chunk-2.ensures.0
+end_chunk-returns-in_err-chunk-2-clause-reads t c = IfOk-from_err c.from_residual-in_err-chunk-2.result _ c.from_residual-in_err-chunk-2.ensures.0
 
 pub end_chunk-returns-in_err-chunk-2-clause-upto : goal.end_chunk-returns-in_err-chunk-2-clause-upto
-end_chunk-returns-in_err-chunk-2-clause-upto t c = unmade _ c.from_residual-in_err-chunk-2.result c.from_residual-in_err-chunk-2.ensures.0
+end_chunk-returns-in_err-chunk-2-clause-upto t c = IfOk-from_err c.from_residual-in_err-chunk-2.result _ c.from_residual-in_err-chunk-2.ensures.0
 
 pub end_chunk-returns-in_err-chunk-2-clause-long : goal.end_chunk-returns-in_err-chunk-2-clause-long
-end_chunk-returns-in_err-chunk-2-clause-long t c = unmade _ c.from_residual-in_err-chunk-2.result c.from_residual-in_err-chunk-2.ensures.0
+end_chunk-returns-in_err-chunk-2-clause-long t c = IfOk-from_err c.from_residual-in_err-chunk-2.result _ c.from_residual-in_err-chunk-2.ensures.0
 
 pub chunk-returns-in_err-start-clause-tree : goal.chunk-returns-in_err-start-clause-tree
-chunk-returns-in_err-start-clause-tree t c = unmade _ c.from_residual.result c.from_residual.ensures.0
+chunk-returns-in_err-start-clause-tree t c = IfOk-from_err c.from_residual.result _ c.from_residual.ensures.0
 
 pub chunk-returns-in_err-start-clause-grown : goal.chunk-returns-in_err-start-clause-grown
-chunk-returns-in_err-start-clause-grown t c = unmade _ c.from_residual.result c.from_residual.ensures.0
+chunk-returns-in_err-start-clause-grown t c = IfOk-from_err c.from_residual.result _ c.from_residual.ensures.0
 
 pub chunk-returns-in_err-start-clause-reads : goal.chunk-returns-in_err-start-clause-reads
-chunk-returns-in_err-start-clause-reads t c = unmade _ c.from_residual.result c.from_residual.ensures.0
+chunk-returns-in_err-start-clause-reads t c = IfOk-from_err c.from_residual.result _ c.from_residual.ensures.0
 
 pub chunk-returns-in_err-push-clause-tree : goal.chunk-returns-in_err-push-clause-tree
-chunk-returns-in_err-push-clause-tree t c = unmade _ c.from_residual-in_err-push.result c.from_residual-in_err-push.ensures.0
+chunk-returns-in_err-push-clause-tree t c = IfOk-from_err c.from_residual-in_err-push.result _ c.from_residual-in_err-push.ensures.0
 
 pub chunk-returns-in_err-push-clause-grown : goal.chunk-returns-in_err-push-clause-grown
-chunk-returns-in_err-push-clause-grown t c = unmade _ c.from_residual-in_err-push.result c.from_residual-in_err-push.ensures.0
+chunk-returns-in_err-push-clause-grown t c = IfOk-from_err c.from_residual-in_err-push.result _ c.from_residual-in_err-push.ensures.0
 
 pub chunk-returns-in_err-push-clause-reads : goal.chunk-returns-in_err-push-clause-reads
-chunk-returns-in_err-push-clause-reads t c = unmade _ c.from_residual-in_err-push.result c.from_residual-in_err-push.ensures.0
+chunk-returns-in_err-push-clause-reads t c = IfOk-from_err c.from_residual-in_err-push.result _ c.from_residual-in_err-push.ensures.0
 
 pub chunk-returns-in_err-start-2-clause-tree : goal.chunk-returns-in_err-start-2-clause-tree
-chunk-returns-in_err-start-2-clause-tree t c = unmade _ c.from_residual-in_err-start-2.result c.from_residual-in_err-start-2.ensures.0
+chunk-returns-in_err-start-2-clause-tree t c = IfOk-from_err c.from_residual-in_err-start-2.result _ c.from_residual-in_err-start-2.ensures.0
 
 pub chunk-returns-in_err-start-2-clause-grown : goal.chunk-returns-in_err-start-2-clause-grown
-chunk-returns-in_err-start-2-clause-grown t c = unmade _ c.from_residual-in_err-start-2.result c.from_residual-in_err-start-2.ensures.0
+chunk-returns-in_err-start-2-clause-grown t c = IfOk-from_err c.from_residual-in_err-start-2.result _ c.from_residual-in_err-start-2.ensures.0
 
 pub chunk-returns-in_err-start-2-clause-reads : goal.chunk-returns-in_err-start-2-clause-reads
-chunk-returns-in_err-start-2-clause-reads t c = unmade _ c.from_residual-in_err-start-2.result c.from_residual-in_err-start-2.ensures.0
+chunk-returns-in_err-start-2-clause-reads t c = IfOk-from_err c.from_residual-in_err-start-2.result _ c.from_residual-in_err-start-2.ensures.0
 
 pub chunk-returns-in_err-push-2-clause-tree : goal.chunk-returns-in_err-push-2-clause-tree
-chunk-returns-in_err-push-2-clause-tree t c = unmade _ c.from_residual-in_err-push-2.result c.from_residual-in_err-push-2.ensures.0
+chunk-returns-in_err-push-2-clause-tree t c = IfOk-from_err c.from_residual-in_err-push-2.result _ c.from_residual-in_err-push-2.ensures.0
 
 pub chunk-returns-in_err-push-2-clause-grown : goal.chunk-returns-in_err-push-2-clause-grown
-chunk-returns-in_err-push-2-clause-grown t c = unmade _ c.from_residual-in_err-push-2.result c.from_residual-in_err-push-2.ensures.0
+chunk-returns-in_err-push-2-clause-grown t c = IfOk-from_err c.from_residual-in_err-push-2.result _ c.from_residual-in_err-push-2.ensures.0
 
 pub chunk-returns-in_err-push-2-clause-reads : goal.chunk-returns-in_err-push-2-clause-reads
-chunk-returns-in_err-push-2-clause-reads t c = unmade _ c.from_residual-in_err-push-2.result c.from_residual-in_err-push-2.ensures.0
+chunk-returns-in_err-push-2-clause-reads t c = IfOk-from_err c.from_residual-in_err-push-2.result _ c.from_residual-in_err-push-2.ensures.0
 
 pub branches-returns-in_err-left-clause-tree : goal.branches-returns-in_err-left-clause-tree
-branches-returns-in_err-left-clause-tree t c = unmade _ c.from_residual.result c.from_residual.ensures.0
+branches-returns-in_err-left-clause-tree t c = IfOk-from_err c.from_residual.result _ c.from_residual.ensures.0
 
 pub branches-returns-in_err-left-clause-grown : goal.branches-returns-in_err-left-clause-grown
-branches-returns-in_err-left-clause-grown t c = unmade _ c.from_residual.result c.from_residual.ensures.0
+branches-returns-in_err-left-clause-grown t c = IfOk-from_err c.from_residual.result _ c.from_residual.ensures.0
 
 pub branches-returns-in_err-left-clause-reads : goal.branches-returns-in_err-left-clause-reads
-branches-returns-in_err-left-clause-reads t c = unmade _ c.from_residual.result c.from_residual.ensures.0
+branches-returns-in_err-left-clause-reads t c = IfOk-from_err c.from_residual.result _ c.from_residual.ensures.0
 
 pub branches-returns-in_err-target-clause-tree : goal.branches-returns-in_err-target-clause-tree
-branches-returns-in_err-target-clause-tree t c = unmade _ c.from_residual-in_err-target.result c.from_residual-in_err-target.ensures.0
+branches-returns-in_err-target-clause-tree t c = IfOk-from_err c.from_residual-in_err-target.result _ c.from_residual-in_err-target.ensures.0
 
 pub branches-returns-in_err-target-clause-grown : goal.branches-returns-in_err-target-clause-grown
-branches-returns-in_err-target-clause-grown t c = unmade _ c.from_residual-in_err-target.result c.from_residual-in_err-target.ensures.0
+branches-returns-in_err-target-clause-grown t c = IfOk-from_err c.from_residual-in_err-target.result _ c.from_residual-in_err-target.ensures.0
 
 pub branches-returns-in_err-target-clause-reads : goal.branches-returns-in_err-target-clause-reads
-branches-returns-in_err-target-clause-reads t c = unmade _ c.from_residual-in_err-target.result c.from_residual-in_err-target.ensures.0
+branches-returns-in_err-target-clause-reads t c = IfOk-from_err c.from_residual-in_err-target.result _ c.from_residual-in_err-target.ensures.0
 
 pub branches-returns-in_err-add_target-clause-tree : goal.branches-returns-in_err-add_target-clause-tree
-branches-returns-in_err-add_target-clause-tree t c = unmade _ c.from_residual-in_err-add_target.result c.from_residual-in_err-add_target.ensures.0
+branches-returns-in_err-add_target-clause-tree t c = IfOk-from_err c.from_residual-in_err-add_target.result _ c.from_residual-in_err-add_target.ensures.0
 
 pub branches-returns-in_err-add_target-clause-grown : goal.branches-returns-in_err-add_target-clause-grown
-branches-returns-in_err-add_target-clause-grown t c = unmade _ c.from_residual-in_err-add_target.result c.from_residual-in_err-add_target.ensures.0
+branches-returns-in_err-add_target-clause-grown t c = IfOk-from_err c.from_residual-in_err-add_target.result _ c.from_residual-in_err-add_target.ensures.0
 
 pub branches-returns-in_err-add_target-clause-reads : goal.branches-returns-in_err-add_target-clause-reads
-branches-returns-in_err-add_target-clause-reads t c = unmade _ c.from_residual-in_err-add_target.result c.from_residual-in_err-add_target.ensures.0
+branches-returns-in_err-add_target-clause-reads t c = IfOk-from_err c.from_residual-in_err-add_target.result _ c.from_residual-in_err-add_target.ensures.0
 
 pub branches-returns-in_err-start-clause-tree : goal.branches-returns-in_err-start-clause-tree
-branches-returns-in_err-start-clause-tree t c = unmade _ c.from_residual-in_err-start.result c.from_residual-in_err-start.ensures.0
+branches-returns-in_err-start-clause-tree t c = IfOk-from_err c.from_residual-in_err-start.result _ c.from_residual-in_err-start.ensures.0
 
 pub branches-returns-in_err-start-clause-grown : goal.branches-returns-in_err-start-clause-grown
-branches-returns-in_err-start-clause-grown t c = unmade _ c.from_residual-in_err-start.result c.from_residual-in_err-start.ensures.0
+branches-returns-in_err-start-clause-grown t c = IfOk-from_err c.from_residual-in_err-start.result _ c.from_residual-in_err-start.ensures.0
 
 pub branches-returns-in_err-start-clause-reads : goal.branches-returns-in_err-start-clause-reads
-branches-returns-in_err-start-clause-reads t c = unmade _ c.from_residual-in_err-start.result c.from_residual-in_err-start.ensures.0
+branches-returns-in_err-start-clause-reads t c = IfOk-from_err c.from_residual-in_err-start.result _ c.from_residual-in_err-start.ensures.0
 
 pub branch-returns-in_err-starts-clause-tree : goal.branch-returns-in_err-starts-clause-tree
-branch-returns-in_err-starts-clause-tree t c = unmade _ c.from_residual.result c.from_residual.ensures.0
+branch-returns-in_err-starts-clause-tree t c = IfOk-from_err c.from_residual.result _ c.from_residual.ensures.0
 
 pub branch-returns-in_err-starts-clause-grown : goal.branch-returns-in_err-starts-clause-grown
-branch-returns-in_err-starts-clause-grown t c = unmade _ c.from_residual.result c.from_residual.ensures.0
+branch-returns-in_err-starts-clause-grown t c = IfOk-from_err c.from_residual.result _ c.from_residual.ensures.0
 
 pub branch-returns-in_err-starts-clause-reads : goal.branch-returns-in_err-starts-clause-reads
-branch-returns-in_err-starts-clause-reads t c = unmade _ c.from_residual.result c.from_residual.ensures.0
+branch-returns-in_err-starts-clause-reads t c = IfOk-from_err c.from_residual.result _ c.from_residual.ensures.0
 
 pub branch-returns-in_err-start-clause-tree : goal.branch-returns-in_err-start-clause-tree
-branch-returns-in_err-start-clause-tree t c = unmade _ c.from_residual-in_err-start.result c.from_residual-in_err-start.ensures.0
+branch-returns-in_err-start-clause-tree t c = IfOk-from_err c.from_residual-in_err-start.result _ c.from_residual-in_err-start.ensures.0
 
 pub branch-returns-in_err-start-clause-grown : goal.branch-returns-in_err-start-clause-grown
-branch-returns-in_err-start-clause-grown t c = unmade _ c.from_residual-in_err-start.result c.from_residual-in_err-start.ensures.0
+branch-returns-in_err-start-clause-grown t c = IfOk-from_err c.from_residual-in_err-start.result _ c.from_residual-in_err-start.ensures.0
 
 pub branch-returns-in_err-start-clause-reads : goal.branch-returns-in_err-start-clause-reads
-branch-returns-in_err-start-clause-reads t c = unmade _ c.from_residual-in_err-start.result c.from_residual-in_err-start.ensures.0
+branch-returns-in_err-start-clause-reads t c = IfOk-from_err c.from_residual-in_err-start.result _ c.from_residual-in_err-start.ensures.0
 
 pub chunk-returns-then-levels-gt0-clause-tree : goal.chunk-returns-then-levels-gt0-clause-tree
 chunk-returns-then-levels-gt0-clause-tree t c = c.in_ok-start.ensures.tree

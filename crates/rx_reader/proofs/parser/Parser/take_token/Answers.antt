@@ -69,7 +69,8 @@ returns-in-Opens-clause-value c =
     let s = c.args.self.now in
     let p = place s.cursor in
     let q = place c.read_token.new.cursor in
-    let tok : token s.config s.flags p ≡ Ok (Opens c.in-Opens.kind c.in-Opens.flags, q) = c.in_ok-read_token.ensures.value ∙ ap (λ (t : Token). found t q) c.in-Opens.is in
+    let tok : token s.config s.flags p ≡ Ok (Opens c.in-Opens.kind c.in-Opens.flags, q) =
+    c.in_ok-read_token.ensures.value ∙ ap (λ (t : Token). found t q) c.in-Opens.is in
     let same = resume-token s.config (innermost s.frames.items) (gathered s.level) s.flags (opened_in s) p (Opens c.in-Opens.kind c.in-Opens.flags) q tok in
     subst (λ (x : Result Syntax SyntaxError). MatchResult c.open_group.result (λ _. answer c.open_group.new.self ≡ x) (λ e. Refuses e x)) (sym same)
     (c.open_group.ensures.value p c.here-piece.ensures)
