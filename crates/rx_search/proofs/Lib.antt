@@ -6,3 +6,4 @@ pub mod FaultLemmas
 pub mod GroupSlotLemmas
 pub mod ByteClassLemmas
 pub mod CaptureLemmas
+pub mod FindLemmas
