@@ -1,10 +1,10 @@
 use Rattle.std.proofs.Common.{◌≡◌, ◌<◌, ◌≤◌, ◌+◌, ◌-◌, ◌*◌, ◌∙◌, refl, sym, ap, subst, inl, inr, arith, length, drop, take}
-use Rattle.std.specs.Prelude.{max, false, IfOk, OnOk, IfSome, map, option_map, string_bytes}
+use Rattle.std.specs.Prelude.{max, false, IfOk, IfSome, map, option_map, string_bytes}
 use Rattle.std.specs.Int.NonZero.{non_zero_usize_get}
 use Rattle.std.proofs.lemmas.List.{take_all}
 use Rattle.rx_model.specs.Length.{minimum_len, is_positive}
 use Rattle.rx_model.specs.Expression.{empty, literal, class, look, repetition, capture, concat, alternation}
-use Rattle.rx_model.specs.Graph.{text, build_state, build_group, build_choice, loop_once, options, copies as graph_copies}
+use Rattle.rx_model.specs.Graph.{text, build_state, build_group, build_choice, loop_once}
 use Rattle.rx_model.specs.Search.{greatest_group, greatest_in}
 use Rattle.rx_search.specs.GroupInfo.{groups_at, slot_of_group}
 use Rattle.rx_search.specs.Limits.{id_limit}
@@ -34,8 +34,7 @@ use Rattle.rx_nfa.proofs.lemmas.runs.GroupLemmas.{named-own}
 use Rattle.rx_nfa.proofs.lemmas.parts.SlotLemmas.{Built-group}
 use Rattle.rx_nfa.proofs.lemmas.parts.ChoiceLemmas.{BuiltEach, Built-choice}
 use Rattle.rx_nfa.proofs.lemmas.parts.CompileLemmas.{choice-names, choice-within, choice-own, choice-sorted, choice-silent}
-use Rattle.rx_nfa.proofs.lemmas.parts.CompileLemmas.{patched-length, loop-closed, optional-closed, option-closed, copy-more, tail-star, repetition-parts}
-use Rattle.rx_nfa.proofs.lemmas.parts.TailLemmas.{tail-options, states-options, tail-once}
+use Rattle.rx_nfa.proofs.lemmas.parts.CompileLemmas.{patched-length, loop-closed, optional-closed, option-closed, copy-more, tail-star}
 use Rattle.rx_nfa.proofs.compiler.expression.+compile.Goals as goal
 
 pub compile-compile_repetition-requires : goal.compile-compile_repetition-requires
@@ -47,10 +46,16 @@ compile-compile_repetition-requires t c =
     let groups : greatest_group r.sub.value ≡ greatest_group c.args.hir.now = ap greatest_group is in
     let states = ap accounted_states is in
     let fits = c.requires.fits in
-    let sound : IsSound (repetition r.min r.max r.greedy r.sub.value) = subst IsSound (sym is) c.kind.ensures.sound in
-    let room = HasRoom-less c.args.builder.now c.args.groups.now (greatest_group c.args.hir.now) (greatest_group r.sub.value) (omega arith)
-    c.requires.room in
-    (omega arith, (c.requires.next, (room, (sound.0, omega arith))))
+    let sound : IsSound (repetition r.min r.max r.greedy r.sub.value) = subst IsSound (sym is) c.kind.ensures.sound in (
+      omega arith,
+      (
+        c.requires.next,
+        (
+          HasRoom-less c.args.builder.now c.args.groups.now (greatest_group c.args.hir.now) (greatest_group r.sub.value) (omega arith) c.requires.room,
+          (sound.0, omega arith),
+        ),
+      ),
+    )
 
 pub compile-compile_capture-requires : goal.compile-compile_capture-requires
 unfolding greatest_group
@@ -61,12 +66,19 @@ compile-compile_capture-requires t c =
     let deep = ap depth is in
     let groups : max (non_zero_usize_get g.index) (greatest_group g.sub.value) ≡ greatest_group c.args.hir.now = ap greatest_group is in
     let states = ap accounted_states is in
-    let fits = c.requires.fits in
-    let group = HasRoom-less c.args.builder.now c.args.groups.now (greatest_group c.args.hir.now) (non_zero_usize_get g.index) (omega arith)
-    c.requires.room in
-    let room = HasRoom-less c.args.builder.now c.args.groups.now (greatest_group c.args.hir.now) (greatest_group g.sub.value) (omega arith)
-    c.requires.room in
-    (omega arith, (c.requires.next, (group, (room, omega arith))))
+    let fits = c.requires.fits in (
+      omega arith,
+      (
+        c.requires.next,
+        (
+          HasRoom-less c.args.builder.now c.args.groups.now (greatest_group c.args.hir.now) (non_zero_usize_get g.index) (omega arith) c.requires.room,
+          (
+            HasRoom-less c.args.builder.now c.args.groups.now (greatest_group c.args.hir.now) (greatest_group g.sub.value) (omega arith) c.requires.room,
+            omega arith,
+          ),
+        ),
+      ),
+    )
 
 pub compile-compile_concat-requires : goal.compile-compile_concat-requires
 unfolding greatest_group
@@ -155,10 +167,18 @@ compile_alternation-compile-requires t c =
     let deep = depth_at c.args.subs.now k item item lt c.sub-item.is in
     let states = accounted_in-drop c.args.subs.now k item lt c.sub-item.is in
     let count = c.loop-sub.invariant.count in
-    let fits = c.requires.fits in
-    let room = HasRoom-kept c.args.builder.now c.loop-sub.builder c.args.groups.now (greatest_in (expressions c.args.subs.now)) (greatest_group item)
-    c.loop-sub.invariant.groups c.loop-sub.invariant.slots (greatest-at c.args.subs.now k item item lt c.sub-item.is) c.requires.room in
-    (omega arith, (omega arith, (room, omega arith)))
+    let fits = c.requires.fits in (
+      omega arith,
+      (
+        omega arith,
+        (
+          HasRoom-kept c.args.builder.now c.loop-sub.builder c.args.groups.now (greatest_in (expressions c.args.subs.now)) (greatest_group item)
+              c.loop-sub.invariant.groups c.loop-sub.invariant.slots
+              (greatest-at c.args.subs.now k item item lt c.sub-item.is) c.requires.room,
+          omega arith,
+        ),
+      ),
+    )
 
 pub compile_alternation-loop-sub-preserved : goal.compile_alternation-loop-sub-preserved
 compile_alternation-loop-sub-preserved t c =
@@ -268,10 +288,18 @@ compile_concat-compile-requires t c =
     let least = accounted_in-least hs (c.loop-left.left - 1) in
     let all = accounted-in_order c.args.groups.now.reverse c.args.subs.now in
     let count = c.loop-left.invariant.count in
-    let fits = c.requires.fits in
-    let room = HasRoom-kept c.args.builder.now c.loop-left.builder c.args.groups.now (greatest_in (expressions c.args.subs.now)) (greatest_group item)
-    b.groups b.slots (greatest-at c.args.subs.now c.place_of-place.result item item lt c.index-subs-place.is) c.requires.room in
-    (omega arith, (c.loop-left.invariant.inside, (room, omega arith)))
+    let fits = c.requires.fits in (
+      omega arith,
+      (
+        c.loop-left.invariant.inside,
+        (
+          HasRoom-kept c.args.builder.now c.loop-left.builder c.args.groups.now (greatest_in (expressions c.args.subs.now)) (greatest_group item) b.groups
+              b.slots
+              (greatest-at c.args.subs.now c.place_of-place.result item item lt c.index-subs-place.is) c.requires.room,
+          omega arith,
+        ),
+      ),
+    )
 
 pub compile_concat-loop-left-preserved : goal.compile_concat-loop-left-preserved
 compile_concat-loop-left-preserved t c =
@@ -358,10 +386,18 @@ compile_repetition-compile-requires t c =
     let leads = ap (λ n. n * accounted_states r.sub.value) c.leading-copies.ensures in
     let more = times-more c.loop-copy._copy c.leading-copies.result (accounted_states r.sub.value) (omega arith) in
     let count = c.loop-copy.invariant.count in
-    let fits = c.requires.fits in
-    let room = HasRoom-kept c.args.builder.now c.loop-copy.builder c.args.groups.now (greatest_group r.sub.value) (greatest_group c.deref.result.now)
-    b.groups b.slots (omega arith) c.requires.room in
-    (omega arith, (c.loop-copy.invariant.inside, (room, omega arith)))
+    let fits = c.requires.fits in (
+      omega arith,
+      (
+        c.loop-copy.invariant.inside,
+        (
+          HasRoom-kept c.args.builder.now c.loop-copy.builder c.args.groups.now (greatest_group r.sub.value) (greatest_group c.deref.result.now) b.groups
+              b.slots
+              (omega arith) c.requires.room,
+          omega arith,
+        ),
+      ),
+    )
 
 pub compile_repetition-returns-clause-count : goal.compile_repetition-returns-clause-count
 compile_repetition-returns-clause-count t c =
@@ -416,6 +452,9 @@ compile-returns-in-Empty-clause-inside t c = c.requires.next
 pub compile-returns-in-Empty-clause-count : goal.compile-returns-in-Empty-clause-count
 compile-returns-in-Empty-clause-count t c = omega arith
 
+pub compile-returns-in-Empty-clause-sound : goal.compile-returns-in-Empty-clause-sound
+compile-returns-in-Empty-clause-sound t c = c.kind.ensures.sound
+
 pub compile-returns-in-Class-clause-inside : goal.compile-returns-in-Class-clause-inside
 compile-returns-in-Class-clause-inside t c = c.push_class.ensures.inside
 
@@ -423,6 +462,9 @@ pub compile-returns-in-Class-clause-count : goal.compile-returns-in-Class-clause
 compile-returns-in-Class-clause-count t c =
     let is : class (class_view c.in-Class.class) ≡ c.args.hir.now = sym (ap kind_view c.in-Class.is) ∙ c.kind.ensures.value in
     count-same _ _ (length c.args.builder.now.states) (length c.push_class.new.self.states) c.push_class.result is c.push_class.ensures.count
+
+pub compile-returns-in-Class-clause-sound : goal.compile-returns-in-Class-clause-sound
+compile-returns-in-Class-clause-sound t c = c.kind.ensures.sound
 
 pub compile-returns-in-Literal-clause-inside : goal.compile-returns-in-Literal-clause-inside
 compile-returns-in-Literal-clause-inside t c = c.compile_literal.ensures.inside
@@ -432,6 +474,9 @@ compile-returns-in-Literal-clause-count t c =
     let is : literal c.deref.result.now ≡ c.args.hir.now = ap literal c.deref.ensures.value ∙ sym (ap kind_view c.in-Literal.is) ∙ c.kind.ensures.value in
     count-same _ _ (length c.args.builder.now.states) (length c.compile_literal.new.builder.states) c.compile_literal.result is c.compile_literal.ensures.count
 
+pub compile-returns-in-Literal-clause-sound : goal.compile-returns-in-Literal-clause-sound
+compile-returns-in-Literal-clause-sound t c = c.kind.ensures.sound
+
 pub compile-returns-in-Look-clause-inside : goal.compile-returns-in-Look-clause-inside
 compile-returns-in-Look-clause-inside t c = c.compile_look.ensures.inside
 
@@ -439,6 +484,9 @@ pub compile-returns-in-Look-clause-count : goal.compile-returns-in-Look-clause-c
 compile-returns-in-Look-clause-count t c =
     let is : look (kind_of c.in-Look.look) ≡ c.args.hir.now = sym (ap kind_view c.in-Look.is) ∙ c.kind.ensures.value in
     count-same _ _ (length c.args.builder.now.states) (length c.compile_look.new.builder.states) c.compile_look.result is c.compile_look.ensures.count
+
+pub compile-returns-in-Look-clause-sound : goal.compile-returns-in-Look-clause-sound
+compile-returns-in-Look-clause-sound t c = c.kind.ensures.sound
 
 pub compile-returns-in-Repetition-clause-inside : goal.compile-returns-in-Repetition-clause-inside
 compile-returns-in-Repetition-clause-inside t c = c.compile_repetition.ensures.inside
@@ -448,6 +496,9 @@ compile-returns-in-Repetition-clause-count t c =
     let r = c.in-Repetition.repetition in
     let is : repetition r.min r.max r.greedy r.sub.value ≡ c.args.hir.now = sym (ap kind_view c.in-Repetition.is) ∙ c.kind.ensures.value in
     count-same _ _ (length c.args.builder.now.states) (length c.compile_repetition.new.builder.states) c.compile_repetition.result is c.compile_repetition.ensures.count
+
+pub compile-returns-in-Repetition-clause-sound : goal.compile-returns-in-Repetition-clause-sound
+compile-returns-in-Repetition-clause-sound t c = c.kind.ensures.sound
 
 pub compile-returns-in-Capture-clause-inside : goal.compile-returns-in-Capture-clause-inside
 compile-returns-in-Capture-clause-inside t c = c.compile_capture.ensures.inside
@@ -459,6 +510,9 @@ compile-returns-in-Capture-clause-count t c =
     sym (ap kind_view c.in-Capture.is) ∙ c.kind.ensures.value in
     count-same _ _ (length c.args.builder.now.states) (length c.compile_capture.new.builder.states) c.compile_capture.result is c.compile_capture.ensures.count
 
+pub compile-returns-in-Capture-clause-sound : goal.compile-returns-in-Capture-clause-sound
+compile-returns-in-Capture-clause-sound t c = c.kind.ensures.sound
+
 pub compile-returns-in-Concat-clause-inside : goal.compile-returns-in-Concat-clause-inside
 compile-returns-in-Concat-clause-inside t c = c.compile_concat.ensures.inside
 
@@ -467,6 +521,9 @@ compile-returns-in-Concat-clause-count t c =
     let is : concat (expressions c.deref-in-Concat.result.now) ≡ c.args.hir.now =
     ap (λ hs. concat (expressions hs)) c.deref-in-Concat.ensures.value ∙ sym (ap kind_view c.in-Concat.is) ∙ c.kind.ensures.value in
     count-same _ _ (length c.args.builder.now.states) (length c.compile_concat.new.builder.states) c.compile_concat.result is c.compile_concat.ensures.count
+
+pub compile-returns-in-Concat-clause-sound : goal.compile-returns-in-Concat-clause-sound
+compile-returns-in-Concat-clause-sound t c = c.kind.ensures.sound
 
 pub compile-returns-in-Alternation-clause-inside : goal.compile-returns-in-Alternation-clause-inside
 compile-returns-in-Alternation-clause-inside t c = c.compile_alternation.ensures.inside
@@ -477,6 +534,9 @@ compile-returns-in-Alternation-clause-count t c =
     ap (λ hs. alternation (expressions hs)) c.deref-in-Alternation.ensures.value ∙ sym (ap kind_view c.in-Alternation.is) ∙ c.kind.ensures.value in
     count-same _ _ (length c.args.builder.now.states) (length c.compile_alternation.new.builder.states) c.compile_alternation.result is
     c.compile_alternation.ensures.count
+
+pub compile-returns-in-Alternation-clause-sound : goal.compile-returns-in-Alternation-clause-sound
+compile-returns-in-Alternation-clause-sound t c = c.kind.ensures.sound
 
 pub compile-compile_literal-requires : goal.compile-compile_literal-requires
 compile-compile_literal-requires t c =
@@ -523,10 +583,17 @@ compile_capture-compile-requires-2 t c =
     let states = ap accounted_states c.deref-2.ensures in
     let grown = pushed-grown c.args.builder.now c.push.new.self slot c.in_ok-close.ensures.states in
     let id = c.in_ok-close.ensures.id in
-    let fits = c.requires.fits in
-    let room = HasRoom-pushed c.args.builder.now c.push.new.self slot c.args.groups.now (greatest_group sub) (greatest_group c.deref-2.result.now)
-    c.in_ok-close.ensures.states (omega arith) c.requires.room in
-    (omega arith, (omega arith, (room, omega arith)))
+    let fits = c.requires.fits in (
+      omega arith,
+      (
+        omega arith,
+        (
+          HasRoom-pushed c.args.builder.now c.push.new.self slot c.args.groups.now (greatest_group sub) (greatest_group c.deref-2.result.now)
+              c.in_ok-close.ensures.states (omega arith) c.requires.room,
+          omega arith,
+        ),
+      ),
+    )
 
 pub compile_capture-returns-clause-inside : goal.compile_capture-returns-clause-inside
 compile_capture-returns-clause-inside t c =
@@ -559,10 +626,17 @@ compile_loop-compile-requires t c =
     let states = ap accounted_states c.deref.ensures in
     let grown = pushed-grown c.args.builder.now c.push.new.self Fail c.in_ok-choice.ensures.states in
     let id = c.in_ok-choice.ensures.id in
-    let fits = c.requires.fits in
-    let room = HasRoom-pushed c.args.builder.now c.push.new.self Fail c.args.groups.now (greatest_group sub) (greatest_group c.deref.result.now)
-    c.in_ok-choice.ensures.states (omega arith) c.requires.room in
-    (omega arith, (omega arith, (room, omega arith)))
+    let fits = c.requires.fits in (
+      omega arith,
+      (
+        omega arith,
+        (
+          HasRoom-pushed c.args.builder.now c.push.new.self Fail c.args.groups.now (greatest_group sub) (greatest_group c.deref.result.now)
+              c.in_ok-choice.ensures.states (omega arith) c.requires.room,
+          omega arith,
+        ),
+      ),
+    )
 
 pub compile_loop-returns-clause-inside : goal.compile_loop-returns-clause-inside
 compile_loop-returns-clause-inside t c =
@@ -595,11 +669,19 @@ compile_options-compile-requires t c =
     let inside = c.loop-option.invariant.inside in
     let count = c.loop-option.invariant.count in
     let more = times-more c.loop-option._option c.args.count (accounted_states c.args.repetition.now.sub.value + 1) (omega arith) in
-    let fits = c.requires.fits in
-    let room = HasRoom-pushed c.loop-option.builder c.push.new.self Fail c.args.groups.now (greatest_group sub) (greatest_group c.deref.result.now)
-    c.in_ok-choice.ensures.states (omega arith) (HasRoom-kept c.args.builder.now c.loop-option.builder c.args.groups.now (greatest_group sub)
-    (greatest_group sub) b.groups b.slots (omega arith) c.requires.room) in
-    (omega arith, (omega arith, (room, omega arith)))
+    let fits = c.requires.fits in (
+      omega arith,
+      (
+        omega arith,
+        (
+          HasRoom-pushed c.loop-option.builder c.push.new.self Fail c.args.groups.now (greatest_group sub) (greatest_group c.deref.result.now)
+              c.in_ok-choice.ensures.states (omega arith)
+              (HasRoom-kept c.args.builder.now c.loop-option.builder c.args.groups.now (greatest_group sub) (greatest_group sub) b.groups b.slots (omega arith)
+              c.requires.room),
+          omega arith,
+        ),
+      ),
+    )
 
 pub compile_loop-patch-requires : goal.compile_loop-patch-requires
 compile_loop-patch-requires t c =
@@ -675,10 +757,17 @@ compile_unbounded-compile_loop-requires-2 t c =
     let most = tail-none c.args.repetition.now.min (accounted_states c.args.repetition.now.sub.value) none in
     let grown = pushed-grown c.args.builder.now c.push.new.self Fail c.in_ok-choice.ensures.states in
     let next = c.requires.next in
-    let fits = c.requires.fits in
-    let room = HasRoom-pushed c.args.builder.now c.push.new.self Fail c.args.groups.now (greatest_group sub) (greatest_group sub)
-    c.in_ok-choice.ensures.states (omega arith) c.requires.room in
-    (omega arith, (omega arith, (room, omega arith)))
+    let fits = c.requires.fits in (
+      omega arith,
+      (
+        omega arith,
+        (
+          HasRoom-pushed c.args.builder.now c.push.new.self Fail c.args.groups.now (greatest_group sub) (greatest_group sub) c.in_ok-choice.ensures.states
+              (omega arith) c.requires.room,
+          omega arith,
+        ),
+      ),
+    )
 
 pub compile_unbounded-returns-clause-count : goal.compile_unbounded-returns-clause-count
 compile_unbounded-returns-clause-count t c =
@@ -697,104 +786,4 @@ compile_unbounded-returns-clause-inside t c =
     let id = c.in_ok-choice.ensures.id in
     let written = ap (λ (d : Draft). length d.states) c.patch.ensures in
     let same = patched-length c.compile_loop-2.new.builder c.in_ok-choice.choice c.in_ok-state.state in
-    omega arith
-
-pub compile_capture-push-requires-clause-room : goal.compile_capture-push-requires-clause-room
-compile_capture-push-requires-clause-room t c = let fits = c.requires.fits in omega arith
-
-pub compile_capture-push-requires-clause-within : goal.compile_capture-push-requires-clause-within
-compile_capture-push-requires-clause-within t c =
-    let slots : c.in-Some.first + 2 * non_zero_usize_get c.args.capture.now.index ≤ c.args.builder.now.slots =
-    subst (λ o. IfSome o (λ first. first + 2 * non_zero_usize_get c.args.capture.now.index ≤ c.args.builder.now.slots)) c.in-Some.is c.requires.group.slots in
-    let some : 0 < c.get.result = omega (arith, c.get.ensures.nonzero) in
-    let same = c.get.ensures.value in
-    (c.requires.group.pattern, omega arith)
-
-pub compile_capture-push-requires-2-clause-room : goal.compile_capture-push-requires-2-clause-room
-compile_capture-push-requires-2-clause-room t c =
-    let slot = Slot c.args.next c.args.groups.now.pattern (c.in-Some.first + 2 * (c.get.result - 1) + 1) in
-    let states = ap accounted_states c.deref-2.ensures in
-    let grown = pushed-grown c.args.builder.now c.push.new.self slot c.in_ok-close.ensures.states in
-    let more = c.in_ok-body.ensures.count in
-    let fits = c.requires.fits in
-    omega arith
-
-pub compile_capture-push-requires-2-clause-within : goal.compile_capture-push-requires-2-clause-within
-compile_capture-push-requires-2-clause-within t c =
-    let slots : c.in-Some.first + 2 * non_zero_usize_get c.args.capture.now.index ≤ c.args.builder.now.slots =
-    subst (λ o. IfSome o (λ first. first + 2 * non_zero_usize_get c.args.capture.now.index ≤ c.args.builder.now.slots)) c.in-Some.is c.requires.group.slots in
-    let some : 0 < c.get.result = omega (arith, c.get.ensures.nonzero) in
-    let same = c.get.ensures.value in
-    let groups = ap length (c.in_ok-body.ensures.built.extends.groups ∙ ap (λ (d : Draft). d.groups) c.in_ok-close.ensures.states) in
-    let written = c.in_ok-body.ensures.built.extends.slots ∙ ap (λ (d : Draft). d.slots) c.in_ok-close.ensures.states in
-    let pattern = c.requires.group.pattern in
-    (omega arith, omega arith)
-
-pub compile_tail-compile_options-requires : goal.compile_tail-compile_options-requires
-compile_tail-compile_options-requires t c =
-    let r = c.args.repetition.now in
-    let states = states-options r.min c.in-Some.max r.max c.saturating_sub.result (accounted_states r.sub.value) c.in-Some.is c.saturating_sub.ensures in
-    (omega arith, (c.requires.next, (c.requires.room, subst (λ n. length c.args.builder.now.states + n ≤ id_limit) states c.requires.fits)))
-
-pub compile_tail-returns-in-Some-clause-built : goal.compile_tail-returns-in-Some-clause-built
-compile_tail-returns-in-Some-clause-built t c =
-    let r = c.args.repetition.now in
-    Built-same _ _ c.args.next c.args.builder.now c.compile_options.new.builder c.compile_options.result
-    (tail-options (is_positive (minimum_len r.sub.value)) r.min c.in-Some.max r.max c.saturating_sub.result r.greedy (part_for c.args.groups.now r.sub.value)
-    c.in-Some.is c.saturating_sub.ensures) c.compile_options.ensures.built
-
-pub compile_tail-returns-in-Some-clause-count : goal.compile_tail-returns-in-Some-clause-count
-compile_tail-returns-in-Some-clause-count t c =
-    let r = c.args.repetition.now in
-    let states = states-options r.min c.in-Some.max r.max c.saturating_sub.result (accounted_states r.sub.value) c.in-Some.is c.saturating_sub.ensures in
-    subst (λ n. OnOk c.compile_options.result (length c.compile_options.new.builder.states ≤ length c.args.builder.now.states + n)) (sym states)
-    c.compile_options.ensures.count
-
-pub compile_unbounded-returns-then-repetition-gt0-clause-built : goal.compile_unbounded-returns-then-repetition-gt0-clause-built
-compile_unbounded-returns-then-repetition-gt0-clause-built t c =
-    let r = c.args.repetition.now in
-    subst (λ part. Built part c.args.next c.args.builder.now c.compile_loop.new.builder c.in_ok-turn.turn.body)
-    (tail-once (is_positive (minimum_len r.sub.value)) r.min r.greedy (part_for c.args.groups.now r.sub.value) (omega arith)) c.in_ok-turn.ensures.from_body
-
-pub compile_unbounded-returns-then-repetition-gt0-clause-count : goal.compile_unbounded-returns-then-repetition-gt0-clause-count
-compile_unbounded-returns-then-repetition-gt0-clause-count t c =
-    let least = tail-least c.args.repetition.now.min (accounted_states c.args.repetition.now.sub.value) in
-    let more = c.in_ok-turn.ensures.count in
-    omega arith
-
-pub compile_repetition-compile_tail-requires : goal.compile_repetition-compile_tail-requires
-compile_repetition-compile_tail-requires t c =
-    let r = c.args.repetition.now in
-    let all = copies-accounted r.min r.max (accounted_states r.sub.value) c.requires.ordered in
-    let fits = c.requires.fits in
-    (omega arith, (c.requires.next, (c.requires.room, omega arith)))
-
-pub compile_repetition-returns-clause-built : goal.compile_repetition-returns-clause-built
-compile_repetition-returns-clause-built t c =
-    let r = c.args.repetition.now in
-    let consumes = is_positive (minimum_len r.sub.value) in
-    let body = part_for c.args.groups.now c.args.repetition.now.sub.value in
-    let copies : c.loop-copy._copy ≡ leading r.min r.max = omega (arith, c.leading-copies.ensures) in
-    subst (λ part. Built part c.args.next c.args.builder.now c.loop-copy.builder c.loop-copy.start)
-    (ap (λ k. graph_copies k body (tail consumes r.min r.max r.greedy body)) copies ∙ repetition-parts consumes r.min r.max r.greedy body)
-    c.loop-copy.invariant.built
-
-pub compile_options-returns-clause-built : goal.compile_options-returns-clause-built
-compile_options-returns-clause-built t c =
-    let r = c.args.repetition.now in
-    let all : c.loop-option._option ≡ c.args.count = omega arith in
-    subst (λ n. Built (options r.greedy n (part_for c.args.groups.now r.sub.value)) c.args.next c.args.builder.now c.loop-option.builder c.loop-option.start)
-    all c.loop-option.invariant.built
-
-pub compile_options-returns-clause-count : goal.compile_options-returns-clause-count
-compile_options-returns-clause-count t c =
-    let all : c.loop-option._option ≡ c.args.count = omega arith in
-    subst (λ n. length c.loop-option.builder.states ≤ length c.args.builder.now.states + n * (accounted_states c.args.repetition.now.sub.value + 1)) all
-    c.loop-option.invariant.count
-
-pub compile_options-push-requires-clause-room : goal.compile_options-push-requires-clause-room
-compile_options-push-requires-clause-room t c =
-    let more = times-more c.loop-option._option c.args.count (accounted_states c.args.repetition.now.sub.value + 1) (omega arith) in
-    let count = c.loop-option.invariant.count in
-    let fits = c.requires.fits in
     omega arith
