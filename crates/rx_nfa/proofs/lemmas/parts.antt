@@ -17,3 +17,6 @@ pub mod PieceLemmas
 pub mod LastLemmas
 pub mod CountLemmas
 pub mod DigitsBuilt
+pub mod BoundLemmas
+pub mod FinishLemmas
+pub mod TailLemmas

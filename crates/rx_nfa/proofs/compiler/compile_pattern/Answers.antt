@@ -15,6 +15,8 @@ use Rattle.rx_nfa.proofs.lemmas.parts.CompileLemmas.{HasRoom-kept}
 use Rattle.rx_nfa.proofs.lemmas.runs.GroupLemmas.{whole-own, whole-own-last}
 use Rattle.rx_nfa.proofs.lemmas.runs.PatternLemmas.{HasPart-pattern}
 use Rattle.rx_nfa.proofs.lemmas.parts.SlotLemmas.{Built-bounds}
+use Rattle.rx_nfa.proofs.lemmas.parts.BoundLemmas.{first-below, second-below}
+use Rattle.rx_search.specs.Limits.{slot_limit}
 use Rattle.rx_nfa.proofs.compiler.compile_pattern.Goals as goal
 
 pub returns-clause-has : goal.returns-clause-has
@@ -222,3 +224,21 @@ returns-clause-count c =
     let body = c.in_ok-body.ensures.count in
     let last = c.in_ok-open.ensures.count in
     omega arith
+
+pub second_slot-last_slot-requires : goal.second_slot-last_slot-requires
+second_slot-last_slot-requires c = first-below c.args.groups.now.whole_slot c.args.builder.now.slots slot_limit c.requires.room.few c.requires.whole
+
+pub push_bound-requires-clause-slot : goal.push_bound-requires-clause-slot
+push_bound-requires-clause-slot c =
+    let same = ap (λ (d : Draft). d.slots) c.in_ok-accept.ensures.states in
+    subst (λ n. IfSome c.second_slot-last_slot.result (λ number. number < n)) (sym same)
+    (subst (λ o. IfSome o (λ number. number < c.args.builder.now.slots)) (sym c.second_slot-last_slot.ensures)
+    (second-below c.args.groups.now.whole_slot c.args.builder.now.slots c.requires.whole))
+
+pub push_bound-requires-2-clause-slot : goal.push_bound-requires-2-clause-slot
+push_bound-requires-2-clause-slot c =
+    let old = c.args.builder.now in
+    let same =
+    c.in_ok-body.ensures.built.extends.slots ∙ c.in_ok-close.ensures.built.extends.slots ∙ ap (λ (d : Draft). d.slots) c.in_ok-accept.ensures.states in
+    subst (λ n. IfSome c.args.groups.now.whole_slot (λ number. number < n)) (sym same)
+    (first-below c.args.groups.now.whole_slot old.slots old.slots (omega arith) c.requires.whole)

@@ -2,7 +2,8 @@ use Rattle.std.proofs.Common.{◌≡◌, ◌+◌, ◌*◌, ◌<◌, ◌≤◌, �
 use Rattle.std.proofs.lemmas.Result.{IfOk-from_err}
 use Rattle.std.proofs.lemmas.List.{length-append, length-map}
 use Rattle.std.proofs.lemmas.Option.{slice_get_within}
-use Rattle.std.specs.Prelude.{true, IfSome, option_map}
+use Rattle.std.specs.Prelude.{true, All, IfSome, option_map}
+use Rattle.std.proofs.lemmas.List.Elements.{All-nil}
 use Rattle.rx_model.specs.Search.{greatest_group}
 use Rattle.rx_search.specs.Limits.{slot_limit}
 use Rattle.rx_nfa.specs.Built.{HasPart, HasParts}
@@ -12,7 +13,7 @@ use Rattle.rx_hir.specs.Names.{group_names}
 use Rattle.rx_nfa.specs.Compiled.{patterns_of, groups_of, slots_of, slots_written}
 use Rattle.rx_nfa.specs.Config.{captures_kind}
 use Rattle.rx_nfa.proofs.lemmas.parts.ExpressionLemmas.{nfa_states-drop, nfa_states-none}
-use Rattle.rx_nfa.proofs.lemmas.parts.BuiltLemmas.{Continues-trans}
+use Rattle.rx_nfa.proofs.lemmas.parts.BuiltLemmas.{Continues-same, Continues-trans}
 use Rattle.rx_nfa.proofs.lemmas.parts.CompileLemmas.{below-more}
 use Rattle.rx_nfa.proofs.lemmas.runs.GroupLemmas.{groups_at-names, first_slot-group}
 use Rattle.rx_nfa.proofs.lemmas.runs.PatternLemmas.{HasParts-more, sound-more}
@@ -186,3 +187,16 @@ returns-clause-has c =
     let all : c.loop-hir.hir-index ≡ length c.args.exprs.now = omega arith in
     subst (λ n. HasParts c.loop-hir.builder.states (directed_part c.args.reverse (patterns_of exprs true 0 (captures_kind c.args.which))) exprs n
     c.loop-hir.starts.items) all c.loop-hir.invariant.has
+
+pub loop-hir-init : goal.loop-hir-init
+loop-hir-init c = record {
+  extends = Continues-same c.args.builder.now;
+  accepted = c.requires.new;
+  len = c.new-starts.ensures.len;
+  count = omega arith;
+  items = ap length c.new-starts.ensures.items;
+  first_slot = c.first_slot-first_slot.ensures;
+  has = λ p h lt at. absurd (omega arith);
+  inside = subst (All (λ q. q < length c.args.builder.now.states)) (sym c.new-starts.ensures.items) (All-nil (λ q. q < length c.args.builder.now.states));
+  sound = λ p h lt at. absurd (omega arith);
+}

@@ -1,6 +1,7 @@
-use Rattle.std.proofs.Common.{◌≡◌, ◌+◌, ◌++◌, ◌∷◌, [], ap, arith, length, get_or, take}
+use Rattle.std.proofs.Common.{◌≡◌, ◌≤◌, ◌+◌, ◌++◌, ◌∷◌, [], ap, subst, arith, length, get_or, take}
+use Rattle.std.proofs.lemmas.List.{take_all}
 use Rattle.std.proofs.lemmas.Result.{IfOk-from_err}
-use Rattle.rx_nfa.specs.Ranges.{whole_depths}
+use Rattle.rx_nfa.specs.Ranges.{CoversUpTo, whole_depths}
 use Rattle.rx_nfa.proofs.lemmas.classes.RowLemmas.{AddsReaders-same, AddsReaders-trans}
 use Rattle.rx_nfa.proofs.lemmas.classes.RangesLemmas.{CoversUpTo-nil, CoversUpTo-more, CoversUpTo-push, whole_depths-push, whole_depths-take, whole_depth-le, take-next, RisesFrom-at, StaysBelow-at}
 use Rattle.rx_nfa.proofs.class.trie.deepen.Goals as goal
@@ -98,3 +99,13 @@ returns-clause-closed c = c.loop-range.invariant.closed
 
 pub returns-clause-ready : goal.returns-clause-ready
 returns-clause-ready c = c.loop-range.invariant.ready
+
+pub returns-clause-enough : goal.returns-clause-enough
+returns-clause-enough c =
+    let all : take c.loop-range.range-index c.args.ranges.now ≡ c.args.ranges.now = take_all c.loop-range.range-index c.args.ranges.now (omega arith) in
+    subst (CoversUpTo c.args.deepest (length c.loop-range.whole.items)) all c.loop-range.invariant.enough
+
+pub returns-clause-count : goal.returns-clause-count
+returns-clause-count c =
+    let all : take c.loop-range.range-index c.args.ranges.now ≡ c.args.ranges.now = take_all c.loop-range.range-index c.args.ranges.now (omega arith) in
+    subst (λ rs. length c.loop-range.states.items ≤ length c.args.states.now.items + whole_depths c.args.deepest rs) all c.loop-range.invariant.count
