@@ -1,4 +1,5 @@
 pub mod ListLemmas
+pub mod ShownLemmas
 pub mod NeedleLemmas
 pub mod ByteLemmas
 pub mod PlaceLemmas

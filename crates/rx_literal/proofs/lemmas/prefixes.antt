@@ -6,3 +6,4 @@ pub mod UnionLemmas
 pub mod TurnLemmas
 pub mod MemberLemmas
 pub mod LiteralLemmas
+pub mod WalkedLemmas

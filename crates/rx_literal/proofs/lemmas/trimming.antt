@@ -10,3 +10,4 @@ pub mod SlotLemmas
 pub mod AloneLemmas
 pub mod AlikeLemmas
 pub mod DistinctLemmas
+pub mod SlotLoopLemmas

@@ -7,7 +7,7 @@ use Rattle.std.proofs.lemmas.Bool.Decides.{nat_tests}
 use Rattle.std.proofs.lemmas.List.{length-map}
 use Rattle.rx_model.proofs.lemmas.runs.RunLemmas.{by_test}
 use Rattle.std.specs.List.{flat_map}
-use Rattle.rx_literal.specs.Literals.{Literal, exact, inexact, infinite, finite, literal_of, is_exact, loose, outer_bytes, cut}
+use Rattle.rx_literal.specs.Literals.{Literal, exact, inexact, infinite, finite, literal_of, bytes_of, is_exact, loose, outer_bytes, cut}
 use Rattle.rx_literal.specs.Literals.{one_empty, extended, extended_by_each, stopped, cross}
 use Rattle.rx_literal.specs.declared.side.Side.{Side}
 use Rattle.rx_literal.specs.declared.side.Side.TheVariants.{Front as front, Back as back}
@@ -70,3 +70,27 @@ after-few side ts few =
     let more : nat_lt 250 (length ts) ≡ false = grind (arith, nat_tests) in
     let e : nat_lt 250 (length (flat_map (extended_by_each side ts) (exact [] ∷ []))) ≡ false = ap (nat_lt 250) (long-after side ts) ∙ more in
     rw e (ap finite (one-after side ts))
+
+-- an inexact literal stays
+pub inexact-stays : (side : Side) (ts : List Literal) (l : Literal) → is_exact l ≡ false → l ∷ [] ≡ extended_by_each side ts l
+unfolding extended_by_each
+inexact-stays side ts (exact s) e = absurd (true≢false e)
+inexact-stays side ts (inexact s) e = refl
+
+-- an exact one is extended by each
+pub exact-extends : (side : Side) (ts : List Literal) (l : Literal) → is_exact l ≡ true
+    → map (λ t. cut side 100 (extended side (bytes_of l) t)) ts ≡ extended_by_each side ts l
+unfolding extended_by_each
+exact-extends side ts (exact s) e = refl
+exact-extends side ts (inexact s) e = absurd (true≢false (sym e))
+
+-- the cross, by how many literals it gives
+pub cross-many : (side : Side) (ls ts : List Literal) → nat_lt 250 (length (flat_map (extended_by_each side ts) ls)) ≡ true
+    → stopped ls ≡ cross side (finite ls) (finite ts)
+unfolding cross
+cross-many side ls ts e = rw e refl
+
+pub cross-few : (side : Side) (ls ts : List Literal) → nat_lt 250 (length (flat_map (extended_by_each side ts) ls)) ≡ false
+    → finite (flat_map (extended_by_each side ts) ls) ≡ cross side (finite ls) (finite ts)
+unfolding cross
+cross-few side ls ts e = rw e refl

@@ -15,11 +15,11 @@ abbrev pub IsFew : Seq → Type 0
 IsFew infinite = Unit {0}
 IsFew (finite ls) = length ls ≤ 250
 
-limited-is : (ls : List Literal) → length ls ≤ 250 → limited ls ≡ finite ls
+pub limited-is : (ls : List Literal) → length ls ≤ 250 → limited ls ≡ finite ls
 unfolding limited
 limited-is ls le = by_test (nat_lt 250 (length ls)) (λ e. absurd (grind (arith, nat_tests))) (λ e. rw e refl)
 
-limited-past : (ls : List Literal) → 250 < length ls → limited ls ≡ infinite
+pub limited-past : (ls : List Literal) → 250 < length ls → limited ls ≡ infinite
 unfolding limited
 limited-past ls lt = by_test (nat_lt 250 (length ls)) (λ e. rw e refl) (λ e. absurd (grind (arith, nat_tests)))
 

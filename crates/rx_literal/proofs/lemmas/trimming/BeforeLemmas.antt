@@ -1,5 +1,6 @@
 -- Bytes in order, and prefixes.
-use Rattle.std.proofs.Common.{◌≡◌, ◌≢◌, ℕ, ◌<◌, ◌≤◌, ◌⊎◌, Bool, true, false, ◌&&◌, List, [], ◌∷◌, length, drop, refl, sym, ap, ◌∙◌, inl, inr, arith, true≢false}
+use Rattle.std.proofs.Common.{◌≡◌, ◌≢◌, ℕ, ◌+◌, ◌<◌, ◌≤◌, ◌⊎◌, Bool, true, false, ◌&&◌, List, [], ◌∷◌, length, drop, get_or}
+use Rattle.std.proofs.Common.{refl, sym, ap, ◌∙◌, inl, inr, arith, true≢false}
 use Rattle.std.specs.Prelude.{nat_lt, nat_eq, ◌||◌}
 use Rattle.std.specs.List.{starts_with}
 use Rattle.std.proofs.lemmas.Bool.Decides.{nat_tests}
@@ -169,3 +170,17 @@ branch-after (x ∷ a) (y ∷ b) p q r =
     ∙ branch-after a b (sym (test-same x y (before by_branches a b) is) ∙ p) (sym (begins-same x y (begins a b) is) ∙ q)
     (sym (begins-same y x (begins b a) (sym is)) ∙ r))
     (λ d. test-less y x (before by_branches b a) (grind (arith, nat_tests))))
+
+-- where the next bytes differ
+pub before-differ : (order : Order) (xs ys : List ℕ) (i : ℕ) → i < length xs → i < length ys → get_or xs i 0 ≢ get_or ys i 0
+    → before order (drop i xs) (drop i ys) ≡ nat_lt (get_or xs i 0) (get_or ys i 0)
+before-differ order xs ys i a b differ =
+    (λ k. before order (drop_more xs i 0 a k) (drop_more ys i 0 b k))
+    ∙ test-differ (get_or xs i 0) (get_or ys i 0) (before order (drop (i + 1) xs) (drop (i + 1) ys)) differ
+
+-- where they are the same
+pub before-on : (order : Order) (xs ys : List ℕ) (i : ℕ) → i < length xs → i < length ys → get_or xs i 0 ≡ get_or ys i 0
+    → before order (drop i xs) (drop i ys) ≡ before order (drop (i + 1) xs) (drop (i + 1) ys)
+before-on order xs ys i a b same =
+    (λ k. before order (drop_more xs i 0 a k) (drop_more ys i 0 b k))
+    ∙ test-same (get_or xs i 0) (get_or ys i 0) (before order (drop (i + 1) xs) (drop (i + 1) ys)) same

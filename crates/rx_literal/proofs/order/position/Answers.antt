@@ -1,4 +1,7 @@
-use Rattle.std.proofs.Common.{◌≡◌, suc, ◌+◌, ◌-◌, ◌/◌, ◌<◌, true, false, length, arith, sym, ◌∙◌}
+use Rattle.std.proofs.Common.{◌≡◌, suc, ◌+◌, ◌-◌, ◌/◌, ◌<◌, true, false, length, drop, arith, refl, ap, subst, sym, ◌∙◌}
+use Rattle.std.specs.List.{list_all, list_any}
+use Rattle.std.proofs.lemmas.List.{take_all}
+use Rattle.rx_hir.proofs.JoinedLemmas.{drop-past}
 use Rattle.rx_literal.specs.Order.{before, follows}
 use Rattle.rx_literal.proofs.lemmas.trimming.OrderedLemmas.{all-up_to, none-on}
 use Rattle.rx_literal.proofs.order.position.Goals as goal
@@ -35,3 +38,28 @@ loop-low-preserved c =
       before = c.loop-low.invariant.before;
       after = none-on order c.args.literal.now c.args.literals.now middle m c.requires inside c.index-literals-middle.is not;
     }
+
+pub returns-then-comes_last-clause-before : goal.returns-then-comes_last-clause-before
+returns-then-comes_last-clause-before c =
+    let ls = c.args.literals.now in
+    ap (list_all (follows c.args.order c.args.literal.now)) (take_all (length ls) ls (omega arith)) ∙ c.comes_last.ensures c.if-comes_last.true
+
+pub returns-then-comes_last-clause-after : goal.returns-then-comes_last-clause-after
+returns-then-comes_last-clause-after c =
+    let ls = c.args.literals.now in
+    ap (list_any (follows c.args.order c.args.literal.now)) (drop-past ls (length ls) (omega arith))
+
+pub loop-low-init : goal.loop-low-init
+loop-low-init c =
+    let ls = c.args.literals.now in
+    record {
+      bounds = omega arith;
+      within = omega arith;
+      before = refl;
+      after = ap (list_any (follows c.args.order c.args.literal.now)) (drop-past ls (length ls) (omega arith));
+    }
+
+pub returns-clause-after : goal.returns-clause-after
+returns-clause-after c =
+    let same : c.loop-low.high ≡ c.loop-low.low = omega (arith, c.loop-low.invariant.bounds, c.loop-low-test.false) in
+    subst (λ k. list_any (follows c.args.order c.args.literal.now) (drop k c.args.literals.now) ≡ false) same c.loop-low.invariant.after

@@ -1,5 +1,5 @@
-use Rattle.rx_literal.proofs.lemmas.trimming.SlotLemmas.{Counted}
+use Rattle.rx_literal.proofs.lemmas.trimming.SlotLoopLemmas.{Counting}
 use Rattle.rx_literal.proofs.slots.count.Given as goal
 
 abbrev pub invariant-loop-slot : goal.invariant-loop-slot
-invariant-loop-slot l = Counted l.slots l.counts l.slot-index
+invariant-loop-slot l = Counting l.slots l.counts l.slot-index

@@ -1,6 +1,9 @@
-use Rattle.std.proofs.Common.{◌≤◌, ◌<◌, [], map, length, drop, ◌∙◌, ◌+◌, arith}
+use Rattle.std.proofs.Common.{◌≤◌, ◌<◌, [], ◌++◌, map, length, drop, ap, subst, sym, ◌∙◌, ◌+◌, arith}
+use Rattle.std.proofs.lemmas.Result.{IfOk-from_err}
 use Rattle.rx_literal.specs.Literals.{cut}
 use Rattle.rx_literal.specs.declared.side.Side.TheVariants.{Front as front}
+use Rattle.rx_literal.specs.declared.order.Order.TheVariants.{Branches as by_branches}
+use Rattle.rx_literal.specs.Order.{InOrder}
 use Rattle.rx_literal.specs.Trim.{preferred}
 use Rattle.rx_literal.proofs.lemmas.trimming.PickedLemmas.{next-changed, too-many, none-left, not-few, are-few}
 use Rattle.rx_literal.proofs.trim.few_short.Goals as goal
@@ -37,3 +40,22 @@ returns c =
     let whole = none-left (cut front 3) c.loop-literal.least.items ls c.loop-literal.literal-index kept all c.loop-literal-test.false
     c.loop-literal.invariant.so_far in
     (c.in_ok-owned.ensures ∙ c.deref.ensures.value ∙ whole, are-few 64 kept all whole c.loop-literal.invariant.few)
+
+pub returns-then-are_more_than : goal.returns-then-are_more_than
+returns-then-are_more_than c = not-few 64 (preferred [] (map (cut front 3) c.args.literals.now)) (c.are_more_than.ensures c.if-are_more_than.true)
+
+pub loop-literal-init : goal.loop-literal-init
+loop-literal-init c =
+    let ls = c.args.literals.now in
+    let none = ap length c.new-kept.ensures.items in
+    record {
+      so_far = λ k. c.new-kept.ensures.items k ++ preferred (c.new-least.ensures.items k) (map (cut front 3) ls);
+      parted = subst (InOrder by_branches) (sym c.new-least.ensures.items) tt;
+      few = omega (arith, none);
+    }
+
+pub returns-in_err-add_short : goal.returns-in_err-add_short
+returns-in_err-add_short c = IfOk-from_err c.from_residual.result _ c.from_residual.ensures.0
+
+pub returns-in_err-owned : goal.returns-in_err-owned
+returns-in_err-owned c = IfOk-from_err c.from_residual-in_err-owned.result _ c.from_residual-in_err-owned.ensures.0

@@ -1,5 +1,6 @@
 use Rattle.std.proofs.Common.{◌≡◌, ◌<◌, length, slice_index, arith}
 use Rattle.std.proofs.lemmas.List.{get_or_read}
+use Rattle.std.proofs.lemmas.Result.{IfOk-from_err}
 use Rattle.rx_prefilter.proofs.TrieLemmas.{added}
 use Rattle.rx_prefilter.proofs.aho_corasick.trie.Trie.add.Goals as goal
 
@@ -18,3 +19,12 @@ returns c =
     c.push.new.self.items c.push-2.new.self.items
     c.requires.within c.requires.empty (omega (arith, count)) c.requires.row count read c.in_ok-extend_from_slice.ensures.items c.in_ok-push.ensures.items
     c.in_ok-push-2.ensures.items
+
+pub returns-in_err-push : goal.returns-in_err-push
+returns-in_err-push c = IfOk-from_err c.from_residual.result _ c.from_residual.ensures.0
+
+pub returns-in_err-push-2 : goal.returns-in_err-push-2
+returns-in_err-push-2 c = IfOk-from_err c.from_residual-in_err-push-2.result _ c.from_residual-in_err-push-2.ensures.0
+
+pub returns-in_err-extend_from_slice : goal.returns-in_err-extend_from_slice
+returns-in_err-extend_from_slice c = IfOk-from_err c.from_residual-in_err-extend_from_slice.result _ c.from_residual-in_err-extend_from_slice.ensures.0
