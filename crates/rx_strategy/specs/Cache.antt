@@ -27,11 +27,6 @@ pub record CacheValue : Type 0 where
 abbrev pub FitsBacktracker : CoreValue → Option bounded.Room → Type 0
 FitsBacktracker c room = MatchOption room (c.backtracks ≡ false) (λ r. c.backtracks ≡ true → bounded.Fits c.nfa r)
 
--- what is accounted for the backtracker's cache, if there is one
-abbrev pub backtrack_memory : Option bounded.Room → ℕ
-backtrack_memory None = 0
-backtrack_memory (Some room) = room.memory
-
 -- a cache with this room serves the core
 pub record FitsCore (c : CoreValue) (cache : CacheValue) : Type 0 where
   pub pikevm : FitsPikeVM (pikevm_of c) cache.pikevm

@@ -1,5 +1,5 @@
 //! What the engines of a strategy write to.
-ghost use Rattle.std.specs.Prelude.{◌≡◌, ◌-◌, ◌^◌, min, IfOk, IfSome, OnOk, OnErr, IsOk};
+ghost use Rattle.std.specs.Prelude.{◌≡◌, ◌-◌, ◌^◌, min, None, IfOk, IfSome, OnOk, OnErr, IsOk};
 ghost use Rattle.rx_strategy.specs.Cache.{Fits, FitsAsBefore, StillFits, HoldsNoStates, memory_of, accounted_for};
 ghost use Rattle.rx_strategy.specs.Dfas.{FitsLazies, HoldNoStates, states_memory};
 ghost use Rattle.rx_strategy.specs.declared.dfas.Dfas.{Dfas};
@@ -10,6 +10,7 @@ use rx_engines::{backtrack, pikevm};
 use rx_search::Memory;
 use std::alloc::Global;
 use std::marker::Model;
+use std::mem::drop;
 
 /// What the engines of a strategy write to. It is made once, and serves one search after another.
 ///
@@ -75,51 +76,45 @@ impl Cache {
         ensures memory { IfOk result (λ c. c.memory ≡ self.now.memory) }
         ensures empty { IfOk result HoldsNoStates }
     {
-        let pikevm = self.pikevm.clone(alloc)?;
-        let (onepass, backtrack, lazies) = self.clone_optional(alloc)?;
-        Ok(Cache {
+        let mut copy = Cache::bare(self.pikevm.clone(alloc)?);
+        match self.copy_parts(alloc, &mut copy) {
+            Ok(()) => Ok(copy),
+            Err(error) => {
+                // By a call (DECISIONS: large values are let go by name).
+                drop(copy);
+                Err(error)
+            }
+        }
+    }
+
+    /// A cache for the PikeVM alone.
+    pub(crate) fn bare(pikevm: pikevm::Cache) -> Cache
+        ensures { result ≡ record { pikevm = pikevm; onepass = None; backtrack = None; lazies = None; memory = 0 } }
+    {
+        Cache {
             pikevm,
-            onepass,
-            backtrack,
-            lazies,
-            memory: self.memory,
-        })
+            onepass: None,
+            backtrack: None,
+            lazies: None,
+            memory: 0,
+        }
     }
 
-    /// The parts that a strategy may lack, once more. Caches for lazy DFAs hold no state.
-    fn clone_optional(
-        &self,
-        alloc: Global,
-    ) -> Result<
-        (
-            Option<rx_onepass::Cache>,
-            Option<backtrack::Cache>,
-            Option<Lazies>,
-        ),
-        Memory,
-    >
-        ensures onepass { IfOk result (λ c. c.0 ≡ self.now.onepass) }
-        ensures backtrack { IfOk result (λ c. c.1 ≡ self.now.backtrack) }
-        ensures fits { IfOk result (λ c. (dfas : Dfas) → FitsLazies dfas self.now.lazies → FitsLazies dfas c.2) }
-        ensures empty { IfOk result (λ c. IfSome c.2 HoldNoStates) }
+    /// Puts copies of the parts that a strategy may lack into a bare cache, and the number. Caches for lazy DFAs hold no state.
+    fn copy_parts(&self, alloc: Global, copy: &mut Cache) -> Result<(), Memory>
+        requires { copy.old.lazies ≡ None }
+        ensures pikevm { copy.new.pikevm ≡ copy.old.pikevm }
+        ensures onepass { OnOk result (copy.new.onepass ≡ self.now.onepass) }
+        ensures backtrack { OnOk result (copy.new.backtrack ≡ self.now.backtrack) }
+        ensures fits { OnOk result ((dfas : Dfas) → FitsLazies dfas self.now.lazies → FitsLazies dfas copy.new.lazies) }
+        ensures memory { OnOk result (copy.new.memory ≡ self.now.memory) }
+        ensures empty { OnOk result (HoldsNoStates copy.new) }
     {
-        let onepass = self.clone_onepass()?;
-        let (backtrack, lazies) = self.clone_backtrack_and_lazies(alloc)?;
-        Ok((onepass, backtrack, lazies))
-    }
-
-    /// The backtracker's cache once more, and caches for lazy DFAs, without a state.
-    fn clone_backtrack_and_lazies(
-        &self,
-        alloc: Global,
-    ) -> Result<(Option<backtrack::Cache>, Option<Lazies>), Memory>
-        ensures backtrack { IfOk result (λ c. c.0 ≡ self.now.backtrack) }
-        ensures fits { IfOk result (λ c. (dfas : Dfas) → FitsLazies dfas self.now.lazies → FitsLazies dfas c.1) }
-        ensures empty { IfOk result (λ c. IfSome c.1 HoldNoStates) }
-    {
-        let backtrack = self.clone_backtrack(alloc)?;
-        let lazies = self.clone_lazies(alloc)?;
-        Ok((backtrack, lazies))
+        copy.onepass = self.clone_onepass()?;
+        copy.backtrack = self.clone_backtrack(alloc)?;
+        copy_lazies(alloc, &self.lazies, &mut copy.lazies)?;
+        copy.memory = self.memory;
+        Ok(())
     }
 
     /// The one-pass DFA's cache once more.
@@ -141,17 +136,25 @@ impl Cache {
             None => Ok(None),
         }
     }
+}
 
-    /// Caches for lazy DFAs once more, without a state.
-    fn clone_lazies(&self, alloc: Global) -> Result<Option<Lazies>, Memory>
-        ensures fits { IfOk result (λ lazies. (dfas : Dfas) → FitsLazies dfas self.now.lazies → FitsLazies dfas lazies) }
-        ensures empty { IfOk result (λ lazies. IfSome lazies HoldNoStates) }
-    {
-        match &self.lazies {
-            Some(lazies) => Ok(Some(lazies.clone(alloc)?)),
-            None => Ok(None),
-        }
-    }
+/// Puts caches for lazy DFAs once more where there are none, without a state.
+fn copy_lazies(
+    alloc: Global,
+    lazies: &Option<Lazies>,
+    copy: &mut Option<Lazies>,
+) -> Result<(), Memory>
+    requires { copy.old ≡ None }
+    ensures fits { OnOk result ((dfas : Dfas) → FitsLazies dfas lazies.now → FitsLazies dfas copy.new) }
+    ensures empty { OnOk result (IfSome copy.new HoldNoStates) }
+{
+    let Some(lazies) = lazies else {
+        return Ok(());
+    };
+    let made = lazies.clone(alloc)?;
+    // By a call (DECISIONS: large values are let go by name).
+    drop(copy.replace(made));
+    Ok(())
 }
 
 /// What is accounted for the states of lazy DFAs, where there are caches for them.

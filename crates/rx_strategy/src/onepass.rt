@@ -69,16 +69,6 @@ impl OnePass {
         }
     }
 
-    /// A cache for its searches, where it is there.
-    pub(crate) fn create_cache(&self, alloc: Global) -> Result<Option<Cache>, Memory>
-        ensures { IfOk result (FitsOnePass self.now) }
-    {
-        match &self.dfa {
-            Some(dfa) => Ok(Some(dfa.create_cache(alloc)?)),
-            None => Ok(None),
-        }
-    }
-
     /// Makes any cache one for its searches. One that has the room stays as it is, also where there is no automaton.
     pub(crate) fn fit_cache(&self, alloc: Global, cache: &mut Option<Cache>) -> Result<(), Memory>
         ensures fits { OnOk result (FitsOnePass self.now cache.new) }

@@ -14,6 +14,7 @@ use rx_dfa::{Dense, dense};
 use rx_nfa::NFA;
 use rx_search::{MatchKind, Memory};
 use std::alloc::Global;
+use std::mem::drop;
 
 impl Dfas {
     /// The DFAs of the NFA and of the one that reads backwards, if that is there.
@@ -32,17 +33,6 @@ impl Dfas {
         match full(alloc, config, nfa, reverse)? {
             Some(dfas) => Ok(dfas),
             None => lazies(alloc, config, nfa, reverse),
-        }
-    }
-
-    /// Caches for lazy DFAs, where these are there.
-    pub(crate) fn create_cache(&self, alloc: Global) -> Result<Option<Lazies>, Memory>
-        ensures fits { IfOk result (FitsLazies self.now) }
-        ensures empty { IfOk result (λ lazies. IfSome lazies HoldNoStates) }
-    {
-        match self {
-            Dfas::Lazy { forward, backward } => Ok(Some(Lazies::new(alloc, forward, backward)?)),
-            _ => Ok(None),
         }
     }
 
@@ -66,7 +56,9 @@ impl Dfas {
         match lazies {
             Some(both) => both.reset(alloc, forward, backward),
             None => {
-                *lazies = Some(Lazies::new(alloc, forward, backward)?);
+                let made = Lazies::new(alloc, forward, backward)?;
+                // By a call (DECISIONS: large values are let go by name).
+                drop(lazies.replace(made));
                 Ok(())
             }
         }

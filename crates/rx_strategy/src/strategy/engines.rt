@@ -6,13 +6,13 @@ ghost use Rattle.rx_search.specs.Input.{IsSpanned, next_in};
 ghost use Rattle.rx_search.specs.Told.{tells};
 ghost use Rattle.rx_hir.specs.Normal.{expressions};
 ghost use Rattle.rx_hir.specs.PropertiesViews.{AreOf};
-ghost use Rattle.rx_strategy.specs.Cache.{FitsCore, FitsBacktracker, FitsAsBefore, StillFits, backtrack_memory, HoldsNoStates, memory_of, accounted_backtrack, accounted_core};
+ghost use Rattle.rx_strategy.specs.Cache.{FitsCore, FitsBacktracker, FitsAsBefore, StillFits, HoldsNoStates, memory_of, accounted_backtrack, accounted_core};
 ghost use Rattle.rx_strategy.specs.Availability.{AreDfasBeside};
 ghost use Rattle.rx_strategy.specs.Config.{kind_of, captures_of, has_backtracker};
 ghost use Rattle.rx_strategy.specs.Core.{CoreValue, IsCoreFor, AreKnownOf, core_memory, reverse_memory};
-ghost use Rattle.rx_strategy.specs.Dfas.{FitsLazies, HoldNoStates, ServeNfa};
+ghost use Rattle.rx_strategy.specs.Dfas.{ServeNfa};
 ghost use Rattle.rx_strategy.specs.Impossible.{is_impossible};
-ghost use Rattle.rx_strategy.specs.OnePass.{FitsOnePass, IsOnePassBeside, ServesOnce, onepass_serves};
+ghost use Rattle.rx_strategy.specs.OnePass.{IsOnePassBeside, ServesOnce, onepass_serves};
 
 mod answers;
 mod attempts;
@@ -24,7 +24,6 @@ use crate::cache::Cache;
 use crate::config::{Config, shared};
 use crate::dfas::Dfas;
 use crate::info::RegexInfo;
-use crate::lazies::Lazies;
 use crate::onepass::OnePass;
 use crate::prefilter::memory_usage as accounted;
 use rx_engines::backtrack::{self, BoundedBacktracker};
@@ -36,6 +35,7 @@ use rx_prefilter::Prefilter;
 use rx_search::{Input, MatchKind, Memory};
 use std::alloc::Global;
 use std::marker::Model;
+use std::mem::drop;
 
 /// The DFAs and the engines over one NFA. A search asks the DFAs, where they are there; where they have no answer, it asks an engine
 /// that always answers: the one-pass DFA where it serves, else the bounded backtracker where that serves, and else the PikeVM. Which
@@ -159,67 +159,14 @@ impl Core {
         ensures memory { IfOk result (λ c. memory_of c ≡ accounted_core self.now) }
         ensures empty { IfOk result HoldsNoStates }
     {
-        let pikevm = self.pikevm.create_cache(alloc)?;
-        let (onepass, backtrack, lazies) = self.optional_caches(alloc)?;
-        let memory = pikevm
-            .memory_usage()
-            .saturating_add(self.onepass.cache_memory())
-            .saturating_add(memory_usage(&backtrack));
-        Ok(Cache {
-            pikevm,
-            onepass,
-            backtrack,
-            lazies,
-            memory,
-        })
-    }
-
-    /// A cache for each part that this core may lack, where the part is there.
-    fn optional_caches(
-        &self,
-        alloc: Global,
-    ) -> Result<
-        (
-            Option<rx_onepass::Cache>,
-            Option<backtrack::Cache>,
-            Option<Lazies>,
-        ),
-        Memory,
-    >
-        ensures onepass { IfOk result (λ c. FitsOnePass self.now.onepass c.0) }
-        ensures backtrack { IfOk result (λ c. FitsBacktracker self.now c.1) }
-        ensures memory { IfOk result (λ c. backtrack_memory c.1 ≡ accounted_backtrack self.now) }
-        ensures lazies { IfOk result (λ c. FitsLazies self.now.dfas c.2) }
-        ensures empty { IfOk result (λ c. IfSome c.2 HoldNoStates) }
-    {
-        let onepass = self.onepass.create_cache(alloc)?;
-        let (backtrack, lazies) = self.backtrack_and_lazies(alloc)?;
-        Ok((onepass, backtrack, lazies))
-    }
-
-    /// A cache for the backtracker, and caches for lazy DFAs, where these are there.
-    fn backtrack_and_lazies(
-        &self,
-        alloc: Global,
-    ) -> Result<(Option<backtrack::Cache>, Option<Lazies>), Memory>
-        ensures backtrack { IfOk result (λ c. FitsBacktracker self.now c.0) }
-        ensures memory { IfOk result (λ c. backtrack_memory c.0 ≡ accounted_backtrack self.now) }
-        ensures lazies { IfOk result (λ c. FitsLazies self.now.dfas c.1) }
-        ensures empty { IfOk result (λ c. IfSome c.1 HoldNoStates) }
-    {
-        let backtrack = self.backtrack_cache(alloc)?;
-        let lazies = self.dfas.create_cache(alloc)?;
-        Ok((backtrack, lazies))
-    }
-
-    /// A cache for the backtracker, where there is one.
-    fn backtrack_cache(&self, alloc: Global) -> Result<Option<backtrack::Cache>, Memory>
-        ensures fits { IfOk result (FitsBacktracker self.now) }
-        ensures memory { IfOk result (λ c. backtrack_memory c ≡ accounted_backtrack self.now) }
-    {
-        match &self.backtrack {
-            Some(engine) => Ok(Some(engine.create_cache(alloc)?)),
-            None => Ok(None),
+        let mut cache = Cache::bare(self.pikevm.create_cache(alloc)?);
+        match self.reset_cache(alloc, &mut cache) {
+            Ok(()) => Ok(cache),
+            Err(error) => {
+                // By a call (DECISIONS: large values are let go by name).
+                drop(cache);
+                Err(error)
+            }
         }
     }
 
@@ -374,16 +321,6 @@ fn reverse_memory(reverse: &Option<NFA>) -> usize
 {
     match reverse {
         Some(nfa) => nfa.memory_usage(),
-        None => 0,
-    }
-}
-
-/// What is accounted for the backtracker's cache, where there is one.
-fn memory_usage(cache: &Option<backtrack::Cache>) -> usize
-    ensures { result ≡ backtrack_memory cache.now }
-{
-    match cache {
-        Some(cache) => cache.memory_usage(),
         None => 0,
     }
 }
