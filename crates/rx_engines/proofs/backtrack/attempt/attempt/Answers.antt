@@ -105,7 +105,8 @@ follow-requires-in-Explore-clause-frames c = frames-popped _ _ c.loop-frame.stac
 -- the loop ends
 
 pub loop-frame-smaller-in-Restore : goal.loop-frame-smaller-in-Restore
-loop-frame-smaller-in-Restore c = fewer-popped _ (work c.args.search.now c.loop-frame.visited) _ c.loop-frame.stack c.pop.new.self c.in-Some-pop.ensures.some (omega arith)
+loop-frame-smaller-in-Restore c =
+    fewer-popped _ (work c.args.search.now c.loop-frame.visited) _ c.loop-frame.stack c.pop.new.self c.in-Some-pop.ensures.some (omega arith)
 
 pub loop-frame-smaller : goal.loop-frame-smaller
 loop-frame-smaller c =

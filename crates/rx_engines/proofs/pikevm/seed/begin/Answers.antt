@@ -88,10 +88,14 @@ pub returns-then-is_vain-clause-width : goal.returns-then-is_vain-clause-width
 returns-then-is_vain-clause-width c = refl
 
 pub close-requires-clause-width : goal.close-requires-clause-width
-close-requires-clause-width c = ap (λ (r : Cells). length r.items) c.clear.ensures ∙ length-replicate {A = Option ℕ} (length c.args.walk.now.slots.items) None ∙ c.requires.width
+close-requires-clause-width c =
+    let same = length-replicate {A = Option ℕ} (length c.args.walk.now.slots.items) None in
+    ap (λ (r : Cells). length r.items) c.clear.ensures ∙ same ∙ c.requires.width
 
 pub returns-clause-slots : goal.returns-clause-slots
-returns-clause-slots c = c.close.ensures.slots ∙ ap (λ (r : Cells). length r.items) c.clear.ensures ∙ length-replicate {A = Option ℕ} (length c.args.walk.now.slots.items) None
+returns-clause-slots c =
+    let same = length-replicate {A = Option ℕ} (length c.args.walk.now.slots.items) None in
+    c.close.ensures.slots ∙ ap (λ (r : Cells). length r.items) c.clear.ensures ∙ same
 
 pub returns-clause-kept : goal.returns-clause-kept
 returns-clause-kept c = c.close.ensures.kept ∙ ap (λ (r : Cells). r.room) c.clear.ensures

@@ -235,9 +235,9 @@ returns-clause-slots c = (c.loop-k.invariant.slots_len, c.loop-k.invariant.slots
 
 pub returns-in-Stop-clause-best : goal.returns-in-Stop-clause-best
 returns-in-Stop-clause-best c = (
-      ap (λ (r : Cells). length r.items) c.copy.ensures ∙ c.slots.ensures.width ∙ c.requires.width.0,
-      ap (λ (r : Cells). r.room) c.copy.ensures ∙ ap (λ (r : Cells). r.room) c.loop-k.invariant.kept,
-    )
+  ap (λ (r : Cells). length r.items) c.copy.ensures ∙ c.slots.ensures.width ∙ c.requires.width.0,
+  ap (λ (r : Cells). r.room) c.copy.ensures ∙ ap (λ (r : Cells). r.room) c.loop-k.invariant.kept,
+)
 
 pub copy-requires : goal.copy-requires
 copy-requires c = c.slots.ensures.width ∙ c.requires.width.0 ∙ sym (ap (λ (r : Cells). length r.items) c.loop-k.invariant.kept)
