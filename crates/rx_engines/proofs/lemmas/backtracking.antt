@@ -3,3 +3,4 @@ pub mod SearchingLemmas
 pub mod FrameLemmas
 pub mod AttemptLemmas
 pub mod BoundedLemmas
+pub mod StackLemmas

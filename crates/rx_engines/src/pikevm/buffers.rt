@@ -40,11 +40,12 @@ impl Buffers {
         ensures slots { IfOk result (λ b. b.best.room ≡ slots) }
         ensures held { IfOk result (λ b. held_by b ≡ 0) }
     {
-        let even = Threads::new(alloc, states, cells)?;
-        let odd = Threads::new(alloc, states, cells)?;
+        // The larger parts last: what is made is let go on each way out after it.
         let stack = Stack::new(alloc, frames)?;
         let row = SlotRow::new(alloc, slots)?;
         let best = SlotRow::new(alloc, slots)?;
+        let even = Threads::new(alloc, states, cells)?;
+        let odd = Threads::new(alloc, states, cells)?;
         Ok(Buffers {
             even,
             odd,

@@ -132,6 +132,11 @@ module _ (nfa : Nfa) (v : InputValue) where
   pub patterns-met : v.end ≤ length v.haystack → (r : Patterns) → IsNfaOf nfa r → next_match_in nfa v ≡ option_map (told_of r.which_captures) (next_in r v)
   patterns-met within r of = next_match_of-patterns nfa r v.haystack v.end within of.runs nfa.utf8 v.anchor v.start of.utf8
 
+-- a span whose length was tested
+pub short-enough : {len most end start : ℕ} (nfa : Nfa) (v : InputValue) → len ≡ end - start → end ≡ v.end → start ≡ v.start → most ≡ max_len nfa
+    → len ≤ most → span_len v ≤ max_len nfa
+short-enough nfa v is ends starts longest le = omega arith
+
 -- the search of a span that is not too long
 module _ (nfa : Nfa) (v : InputValue) (s : Search) (of : IsSearchOf nfa v s) (short : span_len v ≤ max_len nfa) where
   rows : s.end + 1 - s.first ≤ max_len nfa + 1

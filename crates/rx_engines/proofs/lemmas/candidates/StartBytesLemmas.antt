@@ -152,3 +152,13 @@ pub marked-on : (states : List State) (marked : List Bool) (q next left : ℕ) �
     → IfSome o (λ rest. (rest < left - 1) × BeginMarked states marked next) → IfSome o (λ rest. (rest < left) × BeginMarked states marked q)
 marked-on states marked q next left on None told = tt
 marked-on states marked q next left on (Some rest) told = ((let lt = told.0 in omega arith), on told.1)
+
+-- one state more of those that were looked at
+pub marked-next : (states : List State) (old new : List Bool) (qs : List ℕ) (k here : ℕ) → Marks old new → here ≡ get_or qs k here → k < length qs
+    → ((j q : ℕ) → j < k → BeginMarked states old (get_or qs j q)) → BeginMarked states new here → (j q : ℕ) → j < k + 1
+    → BeginMarked states new (get_or qs j q)
+marked-next states old new qs k here marks is inside before begin j q lt =
+    ⊎_elim
+    (λ (same : j ≡ k). subst (BeginMarked states new) (is ∙ get_or_default qs k here q inside ∙ ap (λ j. get_or qs j q) (sym same)) begin)
+    (λ (differ : j ≡ k → ⊥). marked-more states old new marks (get_or qs j q) (before j q (omega arith)))
+    (cases_eq j k)

@@ -1,5 +1,6 @@
 use Rattle.std.proofs.Common.{◌+◌, refl, ◌∙◌, arith}
 use Rattle.rx_engines.proofs.lemmas.backtracking.AttemptLemmas.{bit-of, bit-within, row-on, inserts-at, inserted-passed, passed-work, passed-frames, inserted-accepts, inserted-yields, yields-work, inserted-frames}
+use Rattle.rx_engines.proofs.lemmas.backtracking.StackLemmas.{below-half-all, below-room}
 use Rattle.rx_engines.proofs.backtrack.attempt.follow.Goals as goal
 
 pub loop-state-init : goal.loop-state-init
@@ -158,3 +159,57 @@ returns-clause-frames c =
 
 pub row_at-row-requires-clause-near : goal.row_at-row-requires-clause-near
 row_at-row-requires-clause-near c = rw c.in-To.is at c.step.ensures.near
+
+-- the bits fit
+
+pub insert-requires : goal.insert-requires
+insert-requires c =
+    let v = c.loop-state.invariant in
+    let within = bit-within c.args.search.now c.loop-state.row c.loop-state.state c.loop-state.place v.state v.above v.below v.row in
+    rw (c.as_usize.ensures.value, v.room) (below-room within.0 c.requires.room)
+
+pub row_at-row-requires-clause-small : goal.row_at-row-requires-clause-small
+row_at-row-requires-clause-small c =
+    let v = c.loop-state.invariant in
+    let within = bit-within c.args.search.now c.loop-state.row c.loop-state.state c.loop-state.place v.state v.above v.below v.row in
+    below-half-all within.1 c.requires.small
+
+-- what is inside, and room
+
+pub returns-in-Stop-clause-inside : goal.returns-in-Stop-clause-inside
+returns-in-Stop-clause-inside c = rw c.in-Stop.is at c.step.ensures.inside
+
+pub returns-in-Back-clause-inside : goal.returns-in-Back-clause-inside
+returns-in-Back-clause-inside c = rw c.in-Back.is at c.step.ensures.inside
+
+pub returns-in-Stop-clause-stack : goal.returns-in-Stop-clause-stack
+returns-in-Stop-clause-stack c = c.step.ensures.room ∙ c.loop-state.invariant.stack
+
+pub returns-in-Stop-clause-room : goal.returns-in-Stop-clause-room
+returns-in-Stop-clause-room c = c.insert.ensures.room ∙ c.loop-state.invariant.room
+
+pub returns-in-Stop-clause-width : goal.returns-in-Stop-clause-width
+returns-in-Stop-clause-width c = c.step.ensures.width ∙ c.loop-state.invariant.width
+
+pub returns-in-Back-clause-stack : goal.returns-in-Back-clause-stack
+returns-in-Back-clause-stack c = c.step.ensures.room ∙ c.loop-state.invariant.stack
+
+pub returns-in-Back-clause-room : goal.returns-in-Back-clause-room
+returns-in-Back-clause-room c = c.insert.ensures.room ∙ c.loop-state.invariant.room
+
+pub returns-in-Back-clause-width : goal.returns-in-Back-clause-width
+returns-in-Back-clause-width c = c.step.ensures.width ∙ c.loop-state.invariant.width
+
+pub returns-clause-room : goal.returns-clause-room
+returns-clause-room c = c.insert.ensures.room ∙ c.loop-state.invariant.room
+
+-- the same of what the step requires
+
+pub step-requires-clause-state : goal.step-requires-clause-state
+step-requires-clause-state c = c.loop-state.invariant.state
+
+pub step-requires-clause-place : goal.step-requires-clause-place
+step-requires-clause-place c = (c.loop-state.invariant.above, c.loop-state.invariant.below)
+
+pub step-requires-clause-inside : goal.step-requires-clause-inside
+step-requires-clause-inside c = c.loop-state.invariant.inside

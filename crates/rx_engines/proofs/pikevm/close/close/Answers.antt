@@ -1,6 +1,8 @@
-use Rattle.std.proofs.Common.{◌∷◌, length, length-set, ◌∙◌, ap, arith}
+use Rattle.std.proofs.Common.{◌∷◌, length, length-set, sym, ◌∙◌, ap, arith}
 use Rattle.rx_engines.specs.Threads.{Frames}
 use Rattle.rx_nfa.specs.Ordered.{passed_at}
+use Rattle.rx_engines.specs.Simulation.{frames_to_come}
+use Rattle.rx_engines.proofs.lemmas.backtracking.StackLemmas.{frames-popped, fewer-popped}
 use Rattle.rx_engines.proofs.lemmas.walks.CloseLemmas.{on_top}
 use Rattle.rx_engines.proofs.lemmas.walks.LineLemmas.{line-frames}
 use Rattle.rx_engines.proofs.lemmas.threads.SimulationLemmas.{Waits-restored, Waits-over}
@@ -128,3 +130,39 @@ returns-clause-width c = c.loop-frame.invariant.width
 
 pub write-requires : goal.write-requires
 write-requires c = tt
+
+-- the loop ends, and the stack has room
+
+pub loop-frame-smaller-in-Restore : goal.loop-frame-smaller-in-Restore
+loop-frame-smaller-in-Restore c =
+    let work = frames_to_come c.args.search.now.states.now c.args.place c.loop-frame.threads.set.items in
+    fewer-popped _ work _ c.loop-frame.walk.stack c.pop.new.self c.in-Some.ensures.some (omega arith)
+
+pub loop-frame-smaller : goal.loop-frame-smaller
+loop-frame-smaller c =
+    let work = frames_to_come c.args.search.now.states.now c.args.place c.loop-frame.threads.set.items in
+    fewer-popped _ work _ c.loop-frame.walk.stack c.pop.new.self c.in-Some.ensures.some
+    c.follow-in-Explore.ensures.less
+
+pub follow-requires-in-Explore-clause-frames : goal.follow-requires-in-Explore-clause-frames
+follow-requires-in-Explore-clause-frames c = frames-popped _ _ c.loop-frame.walk.stack c.pop.new.self c.in-Some.ensures.some c.loop-frame.invariant.few
+
+pub follow-requires-in-Explore-clause-from : goal.follow-requires-in-Explore-clause-from
+follow-requires-in-Explore-clause-from c =
+    (on_top c.loop-frame.invariant.here (ap (λ (f : Frames). f.items) c.in-Some.ensures.some) c.in-Explore.is).1
+
+pub follow-requires-in-Explore-clause-inside : goal.follow-requires-in-Explore-clause-inside
+follow-requires-in-Explore-clause-inside c =
+    (on_top c.loop-frame.invariant.here (ap (λ (f : Frames). f.items) c.in-Some.ensures.some) c.in-Explore.is).2
+
+pub follow-requires-in-Explore-clause-width : goal.follow-requires-in-Explore-clause-width
+follow-requires-in-Explore-clause-width c = c.loop-frame.invariant.slots_len ∙ c.requires.width ∙ sym c.loop-frame.invariant.width
+
+pub returns-clause-set : goal.returns-clause-set
+returns-clause-set c = c.loop-frame.invariant.room ∙ sym c.requires.set
+
+pub returns-clause-table : goal.returns-clause-table
+returns-clause-table c = c.loop-frame.invariant.rows ∙ sym c.requires.table
+
+pub returns-clause-stack : goal.returns-clause-stack
+returns-clause-stack c = c.pop.ensures.room ∙ c.loop-frame.invariant.stack_room

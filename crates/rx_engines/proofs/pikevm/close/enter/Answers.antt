@@ -1,4 +1,4 @@
-use Rattle.std.proofs.Common.{◌≡◌, ◌<◌, length, refl, sym, ◌∙◌, ap, arith}
+use Rattle.std.proofs.Common.{◌≡◌, ◌<◌, length, length-set, refl, sym, ◌∙◌, ap, arith}
 use Rattle.std.specs.Prelude.{true, false}
 use Rattle.rx_nfa.specs.Automaton.{forwards, state_at}
 use Rattle.rx_nfa.specs.Ordered.{has, is_resting, passed_at}
@@ -44,3 +44,23 @@ returns-clause-closed c end later goal le stable w =
     (automaton-steps (forwards c.args.search.now.matcher c.args.search.now.text.now) states end) (passed_at items c.args.place) q c.args.place
     c.requires.state le rests (passed_at-has items c.args.place q ∙ new)
     (λ d lt. passed_at-elsewhere items c.args.place d (omega arith)))))
+
+-- room
+
+pub returns-then-not-insert-clause-set : goal.returns-then-not-insert-clause-set
+returns-then-not-insert-clause-set c = rw (rw c.if-not-insert.true at c.insert.ensures.after) refl
+
+pub returns-then-not-insert-clause-capacity : goal.returns-then-not-insert-clause-capacity
+returns-then-not-insert-clause-capacity c = rw (rw c.if-not-insert.true at c.insert.ensures.after) refl
+
+pub returns-clause-set : goal.returns-clause-set
+returns-clause-set c = rw (rw c.if-not-insert.false at c.insert.ensures.after) refl
+
+pub returns-clause-table : goal.returns-clause-table
+returns-clause-table c = rw c.set.ensures (length-set _ _ _)
+
+pub returns-clause-width : goal.returns-clause-width
+returns-clause-width c = rw c.set.ensures refl
+
+pub returns-clause-capacity : goal.returns-clause-capacity
+returns-clause-capacity c = rw (c.set.ensures, rw c.if-not-insert.false at c.insert.ensures.after) refl

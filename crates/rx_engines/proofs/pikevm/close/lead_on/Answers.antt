@@ -109,3 +109,101 @@ returns-clause-closed c end later goal le stable w =
     (Waits-rests stable (v.waits end later goal le stable w) new lt rests
     (found-rests around states end _ (automaton-steps around states end) (passed_at items c.args.place) q c.args.place v.state le rests
     (passed_at-has items c.args.place q ∙ new) (λ d lt. passed_at-elsewhere items c.args.place d (omega arith)))))
+
+-- room, and what else is kept
+
+pub returns-then-not-insert-clause-set : goal.returns-then-not-insert-clause-set
+returns-then-not-insert-clause-set c = rw (rw c.if-not-insert.true at c.insert.ensures.after) (c.loop-next.invariant.room ∙ sym c.requires.set)
+
+pub returns-then-not-insert-clause-capacity : goal.returns-then-not-insert-clause-capacity
+returns-then-not-insert-clause-capacity c = rw (rw c.if-not-insert.true at c.insert.ensures.after) c.loop-next.invariant.capacity
+
+pub returns-then-not-insert-clause-table : goal.returns-then-not-insert-clause-table
+returns-then-not-insert-clause-table c = c.loop-next.invariant.rows ∙ sym c.requires.table
+
+pub returns-then-not-insert-clause-width : goal.returns-then-not-insert-clause-width
+returns-then-not-insert-clause-width c = c.loop-next.invariant.width
+
+pub returns-then-not-insert-clause-slots : goal.returns-then-not-insert-clause-slots
+returns-then-not-insert-clause-slots c = c.loop-next.invariant.slots_len
+
+pub returns-then-not-insert-clause-kept : goal.returns-then-not-insert-clause-kept
+returns-then-not-insert-clause-kept c = c.loop-next.invariant.kept
+
+pub returns-then-not-insert-clause-empty : goal.returns-then-not-insert-clause-empty
+returns-then-not-insert-clause-empty c = c.loop-next.invariant.empty
+
+pub returns-then-not-insert-clause-stack : goal.returns-then-not-insert-clause-stack
+returns-then-not-insert-clause-stack c = c.loop-next.invariant.stack_room
+
+pub returns-then-not-insert-2-clause-set : goal.returns-then-not-insert-2-clause-set
+returns-then-not-insert-2-clause-set c = rw (rw c.if-not-insert-2.true at c.insert-2.ensures.after) (c.loop-next.invariant.room ∙ sym c.requires.set)
+
+pub returns-then-not-insert-2-clause-capacity : goal.returns-then-not-insert-2-clause-capacity
+returns-then-not-insert-2-clause-capacity c = rw (rw c.if-not-insert-2.true at c.insert-2.ensures.after) c.loop-next.invariant.capacity
+
+pub returns-then-not-insert-2-clause-table : goal.returns-then-not-insert-2-clause-table
+returns-then-not-insert-2-clause-table c = c.loop-next.invariant.rows ∙ sym c.requires.table
+
+pub returns-then-not-insert-2-clause-width : goal.returns-then-not-insert-2-clause-width
+returns-then-not-insert-2-clause-width c = c.loop-next.invariant.width
+
+pub returns-then-not-insert-2-clause-slots : goal.returns-then-not-insert-2-clause-slots
+returns-then-not-insert-2-clause-slots c = c.loop-next.invariant.slots_len
+
+pub returns-then-not-insert-2-clause-kept : goal.returns-then-not-insert-2-clause-kept
+returns-then-not-insert-2-clause-kept c = c.loop-next.invariant.kept
+
+pub returns-then-not-insert-2-clause-empty : goal.returns-then-not-insert-2-clause-empty
+returns-then-not-insert-2-clause-empty c = c.loop-next.invariant.empty
+
+pub returns-then-not-insert-2-clause-stack : goal.returns-then-not-insert-2-clause-stack
+returns-then-not-insert-2-clause-stack c = c.loop-next.invariant.stack_room
+
+pub returns-then-not-is_resting-clause-set : goal.returns-then-not-is_resting-clause-set
+returns-then-not-is_resting-clause-set c = c.close.ensures.set ∙ c.loop-next.invariant.room ∙ sym c.requires.set
+
+pub returns-then-not-is_resting-clause-table : goal.returns-then-not-is_resting-clause-table
+returns-then-not-is_resting-clause-table c = c.close.ensures.table ∙ c.loop-next.invariant.rows ∙ sym c.requires.table
+
+pub returns-then-not-is_resting-clause-width : goal.returns-then-not-is_resting-clause-width
+returns-then-not-is_resting-clause-width c = c.close.ensures.width ∙ c.loop-next.invariant.width
+
+pub returns-then-not-is_resting-clause-capacity : goal.returns-then-not-is_resting-clause-capacity
+returns-then-not-is_resting-clause-capacity c = c.close.ensures.capacity ∙ c.loop-next.invariant.capacity
+
+pub returns-then-not-is_resting-clause-slots : goal.returns-then-not-is_resting-clause-slots
+returns-then-not-is_resting-clause-slots c = c.close.ensures.slots ∙ c.loop-next.invariant.slots_len
+
+pub returns-then-not-is_resting-clause-kept : goal.returns-then-not-is_resting-clause-kept
+returns-then-not-is_resting-clause-kept c = c.close.ensures.kept ∙ c.loop-next.invariant.kept
+
+pub returns-then-not-is_resting-clause-stack : goal.returns-then-not-is_resting-clause-stack
+returns-then-not-is_resting-clause-stack c = c.close.ensures.stack ∙ c.loop-next.invariant.stack_room
+
+pub returns-then-not-is_resting-clause-empty : goal.returns-then-not-is_resting-clause-empty
+returns-then-not-is_resting-clause-empty c = c.close.ensures.empty
+
+pub returns-clause-set : goal.returns-clause-set
+returns-clause-set c = rw (rw c.if-not-insert-2.false at c.insert-2.ensures.after) (c.loop-next.invariant.room ∙ sym c.requires.set)
+
+pub returns-clause-table : goal.returns-clause-table
+returns-clause-table c = rw c.set.ensures (length-set _ _ _ ∙ c.loop-next.invariant.rows ∙ sym c.requires.table)
+
+pub returns-clause-width : goal.returns-clause-width
+returns-clause-width c = rw c.set.ensures c.loop-next.invariant.width
+
+pub returns-clause-capacity : goal.returns-clause-capacity
+returns-clause-capacity c = rw (c.set.ensures, rw c.if-not-insert-2.false at c.insert-2.ensures.after) c.loop-next.invariant.capacity
+
+pub returns-clause-slots : goal.returns-clause-slots
+returns-clause-slots c = c.loop-next.invariant.slots_len
+
+pub returns-clause-kept : goal.returns-clause-kept
+returns-clause-kept c = c.loop-next.invariant.kept
+
+pub returns-clause-empty : goal.returns-clause-empty
+returns-clause-empty c = c.loop-next.invariant.empty
+
+pub returns-clause-stack : goal.returns-clause-stack
+returns-clause-stack c = c.loop-next.invariant.stack_room

@@ -1,5 +1,8 @@
-use Rattle.std.proofs.Common.{refl, arith}
+use Rattle.std.proofs.Common.{ℕ, length, refl, ◌∙◌, ap, arith}
 use Rattle.rx_engines.proofs.lemmas.threads.SimulationLemmas.{Waits-vain, Waits-over}
+use Rattle.std.proofs.lemmas.List.{length-replicate}
+use Rattle.std.specs.Prelude.{Option, None}
+use Rattle.rx_engines.specs.Threads.{Cells}
 use Rattle.rx_engines.proofs.pikevm.seed.begin.Goals as goal
 
 pub returns-then-is_vain-clause-closed : goal.returns-then-is_vain-clause-closed
@@ -83,3 +86,16 @@ returns-then-is_vain-clause-table c = refl
 
 pub returns-then-is_vain-clause-width : goal.returns-then-is_vain-clause-width
 returns-then-is_vain-clause-width c = refl
+
+pub close-requires-clause-width : goal.close-requires-clause-width
+close-requires-clause-width c =
+    let same = length-replicate {A = Option ℕ} (length c.args.walk.now.slots.items) None in
+    ap (λ (r : Cells). length r.items) c.clear.ensures ∙ same ∙ c.requires.width
+
+pub returns-clause-slots : goal.returns-clause-slots
+returns-clause-slots c =
+    let same = length-replicate {A = Option ℕ} (length c.args.walk.now.slots.items) None in
+    c.close.ensures.slots ∙ ap (λ (r : Cells). length r.items) c.clear.ensures ∙ same
+
+pub returns-clause-kept : goal.returns-clause-kept
+returns-clause-kept c = c.close.ensures.kept ∙ ap (λ (r : Cells). r.room) c.clear.ensures

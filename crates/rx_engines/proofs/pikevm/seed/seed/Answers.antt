@@ -123,3 +123,84 @@ returns-clause-room c = record {
 
 pub begin-requires-2-clause-width : goal.begin-requires-2-clause-width
 begin-requires-2-clause-width c = c.requires.ready.slots ∙ sym c.requires.ready.even.wide
+
+pub returns-then-matched-clause-best : goal.returns-then-matched-clause-best
+returns-then-matched-clause-best c = refl
+
+pub returns-then-matched-clause-ready : goal.returns-then-matched-clause-ready
+returns-then-matched-clause-ready c = c.requires.ready
+
+pub returns-then-matched-clause-room : goal.returns-then-matched-clause-room
+returns-then-matched-clause-room c = record { even = refl; odd = refl; slots = refl; stack = refl; best = refl }
+
+pub returns-then-search-place-clause-best : goal.returns-then-search-place-clause-best
+returns-then-search-place-clause-best c = refl
+
+pub returns-then-search-place-clause-ready : goal.returns-then-search-place-clause-ready
+returns-then-search-place-clause-ready c = c.requires.ready
+
+pub returns-then-search-place-clause-room : goal.returns-then-search-place-clause-room
+returns-then-search-place-clause-room c = record { even = refl; odd = refl; slots = refl; stack = refl; best = refl }
+
+pub returns-then-not-may_begin-clause-best : goal.returns-then-not-may_begin-clause-best
+returns-then-not-may_begin-clause-best c = refl
+
+pub returns-then-not-may_begin-clause-ready : goal.returns-then-not-may_begin-clause-ready
+returns-then-not-may_begin-clause-ready c = c.requires.ready
+
+pub returns-then-not-may_begin-clause-room : goal.returns-then-not-may_begin-clause-room
+returns-then-not-may_begin-clause-room c = record { even = refl; odd = refl; slots = refl; stack = refl; best = refl }
+
+pub returns-then-not-is_allowed-clause-best : goal.returns-then-not-is_allowed-clause-best
+returns-then-not-is_allowed-clause-best c = refl
+
+pub returns-then-not-is_allowed-clause-ready : goal.returns-then-not-is_allowed-clause-ready
+returns-then-not-is_allowed-clause-ready c = c.requires.ready
+
+pub returns-then-not-is_allowed-clause-room : goal.returns-then-not-is_allowed-clause-room
+returns-then-not-is_allowed-clause-room c = record { even = refl; odd = refl; slots = refl; stack = refl; best = refl }
+
+pub may_begin-requires : goal.may_begin-requires
+may_begin-requires c = (c.requires.place, c.requires.search.end)
+
+pub begin-requires-clause-search : goal.begin-requires-clause-search
+begin-requires-clause-search c = c.requires.search
+
+pub begin-requires-clause-place : goal.begin-requires-clause-place
+begin-requires-clause-place c = c.requires.place
+
+pub begin-requires-clause-set : goal.begin-requires-clause-set
+begin-requires-clause-set c = c.requires.ready.odd.set
+
+pub begin-requires-clause-table : goal.begin-requires-clause-table
+begin-requires-clause-table c = c.requires.ready.odd.rows
+
+pub begin-requires-clause-empty : goal.begin-requires-clause-empty
+begin-requires-clause-empty c = c.requires.ready.empty
+
+pub begin-requires-clause-stack : goal.begin-requires-clause-stack
+begin-requires-clause-stack c = c.requires.ready.stack
+
+pub begin-requires-2-clause-search : goal.begin-requires-2-clause-search
+begin-requires-2-clause-search c = c.requires.search
+
+pub begin-requires-2-clause-place : goal.begin-requires-2-clause-place
+begin-requires-2-clause-place c = c.requires.place
+
+pub begin-requires-2-clause-set : goal.begin-requires-2-clause-set
+begin-requires-2-clause-set c = c.requires.ready.even.set
+
+pub begin-requires-2-clause-table : goal.begin-requires-2-clause-table
+begin-requires-2-clause-table c = c.requires.ready.even.rows
+
+pub begin-requires-2-clause-empty : goal.begin-requires-2-clause-empty
+begin-requires-2-clause-empty c = c.requires.ready.empty
+
+pub begin-requires-2-clause-stack : goal.begin-requires-2-clause-stack
+begin-requires-2-clause-stack c = c.requires.ready.stack
+
+pub returns-then-buffers-clause-best : goal.returns-then-buffers-clause-best
+returns-then-buffers-clause-best c = refl
+
+pub returns-clause-best : goal.returns-clause-best
+returns-clause-best c = refl

@@ -1,6 +1,6 @@
-use Rattle.std.proofs.Common.{◌+◌, drop, refl, sym, ◌∙◌, ap, arith}
+use Rattle.std.proofs.Common.{◌+◌, length, drop, refl, sym, ◌∙◌, ap, arith}
 use Rattle.rx_nfa.specs.Automaton.{automaton, forwards}
-use Rattle.rx_engines.specs.Threads.{StateSet}
+use Rattle.rx_engines.specs.Threads.{StateSet, Cells}
 use Rattle.rx_nfa.proofs.lemmas.runs.AutomatonLemmas.{automaton-bounded}
 use Rattle.rx_nfa.proofs.lemmas.runs.AutomatonLemmas.{automaton-rises}
 use Rattle.rx_engines.proofs.lemmas.threads.StepLemmas.{onward, onward-stable, Stepping-accepts, Stepping-reads, Stepping-ends, Stepping-over, Stepping-begun, acts-known, idle-known, idle-ends, idle-accepts, among-over}
@@ -214,3 +214,41 @@ start-start-requires c = omega arith
 
 pub start-start-requires-in-To : goal.start-start-requires-in-To
 start-start-requires-in-To c = omega arith
+
+pub returns-in-Stop-clause-set : goal.returns-in-Stop-clause-set
+returns-in-Stop-clause-set c = c.loop-k.invariant.room ∙ sym c.requires.set.1
+
+pub returns-in-Stop-clause-table : goal.returns-in-Stop-clause-table
+returns-in-Stop-clause-table c = c.loop-k.invariant.rows ∙ sym c.requires.table.1
+
+pub returns-in-Stop-clause-slots : goal.returns-in-Stop-clause-slots
+returns-in-Stop-clause-slots c = (c.loop-k.invariant.slots_len, c.loop-k.invariant.slots_room)
+
+pub returns-clause-set : goal.returns-clause-set
+returns-clause-set c = c.loop-k.invariant.room ∙ sym c.requires.set.1
+
+pub returns-clause-table : goal.returns-clause-table
+returns-clause-table c = c.loop-k.invariant.rows ∙ sym c.requires.table.1
+
+pub returns-clause-slots : goal.returns-clause-slots
+returns-clause-slots c = (c.loop-k.invariant.slots_len, c.loop-k.invariant.slots_room)
+
+pub returns-in-Stop-clause-best : goal.returns-in-Stop-clause-best
+returns-in-Stop-clause-best c = (
+  ap (λ (r : Cells). length r.items) c.copy.ensures ∙ c.slots.ensures.width ∙ c.requires.width.0,
+  ap (λ (r : Cells). r.room) c.copy.ensures ∙ ap (λ (r : Cells). r.room) c.loop-k.invariant.kept,
+)
+
+pub copy-requires : goal.copy-requires
+copy-requires c = c.slots.ensures.width ∙ c.requires.width.0 ∙ sym (ap (λ (r : Cells). length r.items) c.loop-k.invariant.kept)
+
+pub returns-clause-best : goal.returns-clause-best
+returns-clause-best c = (ap (λ (r : Cells). length r.items) c.loop-k.invariant.kept, ap (λ (r : Cells). r.room) c.loop-k.invariant.kept)
+
+pub returns-clause-kept : goal.returns-clause-kept
+returns-clause-kept c = ap (λ (r : Cells). r.items) c.loop-k.invariant.kept
+
+pub arrive-requires-clause-width : goal.arrive-requires-clause-width
+arrive-requires-clause-width c =
+    let wide = sym (c.loop-k.invariant.width ∙ c.requires.width.1) in
+    (c.slots-slots.ensures.width ∙ c.requires.width.0 ∙ wide, c.loop-k.invariant.slots_len ∙ c.requires.width.2 ∙ wide)

@@ -1,13 +1,12 @@
-use Rattle.std.proofs.Common.{◌≤◌, refl, sym, ◌∙◌, ap, subst, arith}
+use Rattle.std.proofs.Common.{refl, sym, ◌∙◌, ap, subst, arith}
 use Rattle.std.specs.Prelude.{option_map, IfSome}
 use Rattle.rx_search.specs.Matches.{match_value}
 use Rattle.rx_search.specs.Told.{HasSlots}
-use Rattle.rx_search.specs.Input.{span_len}
-use Rattle.rx_engines.specs.Bounded.{BacktrackerValue, max_len}
+use Rattle.rx_engines.specs.Bounded.{BacktrackerValue, Room}
 use Rattle.rx_engines.specs.Search.{is_offered}
 use Rattle.rx_engines.proofs.lemmas.answers.EngineLemmas.{search-inside, next-is, found-within, found-pattern, found-slots, found-places}
 use Rattle.rx_engines.proofs.lemmas.candidates.CandidateLemmas.{passes-no_run}
-use Rattle.rx_engines.proofs.lemmas.backtracking.BoundedLemmas.{patterns-met, extent-small, extent-fits, frames-fit}
+use Rattle.rx_engines.proofs.lemmas.backtracking.BoundedLemmas.{patterns-met, short-enough, extent-small, extent-fits, frames-fit}
 use Rattle.rx_engines.proofs.lemmas.answers.SpanLemmas.{empty-within}
 use Rattle.rx_engines.proofs.backtrack.backtracker.BoundedBacktracker.try_find_slots.Goals as goal
 
@@ -43,40 +42,22 @@ find-requires-clause-search c =
 pub find-requires-clause-small : goal.find-requires-clause-small
 find-requires-clause-small c =
     let same = ap (λ (e : BacktrackerValue). e.nfa) c.self.view_is in
-    let short : span_len c.args.input.now ≤ max_len c.args.self.now.nfa = grind (
-      arith,
-      c.saturating_sub-len.ensures,
-      c.if-len-max_haystack_len.false,
-      c.max_haystack_len.ensures,
-      c.end.ensures.value,
-      c.start.ensures.value,
-    ) in
+    let short = short-enough c.args.self.now.nfa c.args.input.now c.saturating_sub-len.ensures c.end.ensures.value c.start.ensures.value
+    c.max_haystack_len.ensures c.if-len-max_haystack_len.false in
     extent-small c.args.self.now.nfa c.args.input.now c.in-Some.search (rw same at c.in-Some.ensures.some) short (rw same at c.of.ensures.in_range.few_states)
 
 pub find-requires-clause-room : goal.find-requires-clause-room
 find-requires-clause-room c =
     let same = ap (λ (e : BacktrackerValue). e.nfa) c.self.view_is in
-    let short : span_len c.args.input.now ≤ max_len c.args.self.now.nfa = grind (
-      arith,
-      c.saturating_sub-len.ensures,
-      c.if-len-max_haystack_len.false,
-      c.max_haystack_len.ensures,
-      c.end.ensures.value,
-      c.start.ensures.value,
-    ) in
+    let short = short-enough c.args.self.now.nfa c.args.input.now c.saturating_sub-len.ensures c.end.ensures.value c.start.ensures.value
+    c.max_haystack_len.ensures c.if-len-max_haystack_len.false in
     extent-fits c.args.self.now.nfa c.args.input.now c.in-Some.search (rw same at c.in-Some.ensures.some) short c.requires.bits
 
 pub find-requires-clause-frames : goal.find-requires-clause-frames
 find-requires-clause-frames c =
     let same = ap (λ (e : BacktrackerValue). e.nfa) c.self.view_is in
-    let short : span_len c.args.input.now ≤ max_len c.args.self.now.nfa = grind (
-      arith,
-      c.saturating_sub-len.ensures,
-      c.if-len-max_haystack_len.false,
-      c.max_haystack_len.ensures,
-      c.end.ensures.value,
-      c.start.ensures.value,
-    ) in
+    let short = short-enough c.args.self.now.nfa c.args.input.now c.saturating_sub-len.ensures c.end.ensures.value c.start.ensures.value
+    c.max_haystack_len.ensures c.if-len-max_haystack_len.false in
     frames-fit c.args.self.now.nfa c.args.input.now c.in-Some.search (rw same at c.in-Some.ensures.some) short c.requires.stack
 
 pub returns-clause-value : goal.returns-clause-value
@@ -132,3 +113,25 @@ returns-clause-slots_within c =
     (found-slots c.args.self.now.nfa c.args.input.now c.in-Some.search of (is_offered c.in-Some.search) (rw same at c.of.ensures.in_range) _ _ refl
     c.find.new.slots c.find.ensures.slots)
     _ (λ none. rw (c.find.ensures.value ∙ ap (option_map match_value) none) at c.find.ensures.none)
+
+-- what is left as it was
+
+pub returns-clause-short : goal.returns-clause-short
+returns-clause-short c =
+    short-enough c.args.self.now.nfa c.args.input.now c.saturating_sub-len.ensures c.end.ensures.value c.start.ensures.value
+    c.max_haystack_len.ensures c.if-len-max_haystack_len.false
+
+pub returns-clause-cache : goal.returns-clause-cache
+returns-clause-cache c = rw c.find.ensures.room c.requires
+
+pub returns-clause-memory : goal.returns-clause-memory
+returns-clause-memory c = ap (λ (r : Room). r.memory) c.find.ensures.room
+
+pub returns-clause-none : goal.returns-clause-none
+returns-clause-none c = c.find.ensures.none
+
+pub find-requires-clause-slots : goal.find-requires-clause-slots
+find-requires-clause-slots c =
+    let same = ap (λ (e : BacktrackerValue). e.nfa) c.self.view_is in
+    let of = rw same at c.in-Some.ensures.some in
+    rw of.slots c.requires.slots

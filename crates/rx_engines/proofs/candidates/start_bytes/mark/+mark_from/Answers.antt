@@ -3,7 +3,7 @@ use Rattle.std.specs.Prelude.{All}
 use Rattle.rx_nfa.specs.declared.state.Transition.{Transition}
 use Rattle.rx_nfa.specs.declared.state.State.TheVariants.{ByteRange, Sparse, Look, Union, Capture, Fail}
 use Rattle.rx_engines.specs.StartBytes.{HasRange, BeginMarked}
-use Rattle.rx_engines.proofs.lemmas.candidates.StartBytesLemmas.{settled-begins, state-read, marked-on}
+use Rattle.rx_engines.proofs.lemmas.candidates.StartBytesLemmas.{settled-begins, state-read, marked-on, marks-more, marked-next}
 use Rattle.rx_engines.proofs.candidates.start_bytes.mark.+mark_from.Goals as goal
 
 pub returns-in-ByteRange-clause-marked : goal.returns-in-ByteRange-clause-marked
@@ -57,3 +57,18 @@ returns-in-Fail-clause-marked t c =
     let is = state-read c.args.states.now c.args.state c.as_usize.result c.index-states-as_usize.result _ c.requires.state c.as_usize.ensures.value
     c.index-states-as_usize.is c.in-Fail.is in
     (omega arith, settled-begins c.args.states.now c.args.has.now c.args.state Fail is tt)
+
+-- the loop over alternates
+
+pub loop-k-preserved : goal.loop-k-preserved
+loop-k-preserved t c =
+    let v = c.loop-k.invariant in
+    let less = v.less in
+    let now = c.in-Some.ensures.marked in
+    let fewer = now.0 in
+    record {
+      less = omega arith;
+      kept = marks-more _ _ _ v.kept c.mark_from.ensures.kept;
+      marked = marked-next c.args.states.now c.loop-k.has c.mark_from.new.has _ c.loop-k.k _ c.mark_from.ensures.kept c.index-alternates-k.is (omega arith)
+          v.marked now.1;
+    }
