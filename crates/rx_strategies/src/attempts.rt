@@ -87,8 +87,7 @@ pub(crate) fn half_after(
 {
     match tried {
         Ok(found) => Ok(half_match(found)),
-        Err(Stop::Dense) => core.search_half(cache, input),
-        Err(Stop::Retry(RetryError::Quadratic(_))) => core.search_half(cache, input),
+        Err(Stop::Dense | Stop::Retry(RetryError::Quadratic(_))) => core.search_half(cache, input),
         Err(_) => Ok(core.search_half_nofail(cache, input)),
     }
 }
@@ -121,8 +120,9 @@ pub(crate) fn slots_after(
 {
     match tried {
         Ok(found) => Ok(core.tell_found(cache, input, found, slots)),
-        Err(Stop::Dense) => core.search_slots(cache, input, slots),
-        Err(Stop::Retry(RetryError::Quadratic(_))) => core.search_slots(cache, input, slots),
+        Err(Stop::Dense | Stop::Retry(RetryError::Quadratic(_))) => core.search_slots(
+            cache, input, slots,
+        ),
         Err(_) => Ok(core.search_slots_nofail(cache, input, slots)),
     }
 }
@@ -145,8 +145,7 @@ pub(crate) fn whether_after(
 {
     match tried {
         Ok(found) => Ok(found.is_some()),
-        Err(Stop::Dense) => core.is_match(cache, input),
-        Err(Stop::Retry(RetryError::Quadratic(_))) => core.is_match(cache, input),
+        Err(Stop::Dense | Stop::Retry(RetryError::Quadratic(_))) => core.is_match(cache, input),
         Err(_) => Ok(core.is_match_nofail(cache, input)),
     }
 }

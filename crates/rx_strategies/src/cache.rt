@@ -1,6 +1,6 @@
 //! What the searches of a strategy write to.
 ghost use Rattle.std.specs.Prelude.{◌≡◌, true, false, IfOk, OnOk, OnErr, IsOk, IsSomeAnd};
-ghost use Rattle.rx_strategies.specs.Cache.{Fits, FitsCore, FitsInner, FitsAsBefore, StillFits, memory_of, states_in, fixed_in, accounted_for, rooms_memory, rooms_states, ServesMore, ServesAsBefore};
+ghost use Rattle.rx_strategies.specs.Cache.{Fits, FitsCore, FitsInner, FitsAsBefore, StillFits, memory_of, states_in, fixed_in, accounted_for, rooms_memory, rooms_states, rooms_fixed, ServesMore, ServesAsBefore};
 ghost use Rattle.rx_strategy.specs.Cache as lower;
 ghost use Rattle.rx_strategies.specs.Attempting.{is_by_inner};
 
@@ -82,12 +82,19 @@ impl Cache {
     {
         // (the smaller part first, since it is let go where there is no memory for the other)
         let prefix = PrefixCache::new(alloc, inner.prefix())?;
-        Ok(Cache {
-            rooms: Some(inner.core().create_cache(alloc)?),
-            prefix,
-            in_use: true,
-            reads_prefix: true,
-        })
+        match inner.core().create_cache(alloc) {
+            Ok(rooms) => Ok(Cache {
+                rooms: Some(rooms),
+                prefix,
+                in_use: true,
+                reads_prefix: true,
+            }),
+            Err(error) => {
+                // By a call (DECISIONS: large values are let go by name).
+                drop(prefix);
+                Err(error)
+            }
+        }
     }
 
     /// Makes any cache one that serves this strategy. It takes memory where its room does not suffice, and keeps what it
@@ -143,11 +150,19 @@ impl Cache {
     {
         // First the room for the prefix, so that nothing changes where there is none.
         let missing = self.prefix.missing(alloc, inner.prefix())?;
-        reset_rooms(alloc, &mut self.rooms, inner.core())?;
-        self.prefix.renew(missing);
-        self.in_use = true;
-        self.reads_prefix = true;
-        Ok(())
+        match reset_rooms(alloc, &mut self.rooms, inner.core()) {
+            Ok(()) => {
+                self.prefix.renew(missing);
+                self.in_use = true;
+                self.reads_prefix = true;
+                Ok(())
+            }
+            Err(error) => {
+                // By a call (DECISIONS: large values are let go by name).
+                drop(missing);
+                Err(error)
+            }
+        }
     }
 
     /// The bytes that are accounted for the caches of the engines of its strategy, or the greatest `usize` where they are
@@ -174,20 +189,37 @@ impl Cache {
         ensures reads { IfOk result (λ copy. copy.reads_prefix ≡ self.now.reads_prefix) }
     {
         let prefix = self.prefix.clone(alloc)?;
-        match &self.rooms {
-            Some(rooms) => Ok(Cache {
-                rooms: Some(rooms.clone(alloc)?),
+        match clone_rooms(alloc, &self.rooms) {
+            Ok(rooms) => Ok(Cache {
+                rooms,
                 prefix,
                 in_use: self.in_use,
                 reads_prefix: self.reads_prefix,
             }),
-            None => Ok(Cache {
-                rooms: None,
-                prefix,
-                in_use: self.in_use,
-                reads_prefix: self.reads_prefix,
-            }),
+            Err(error) => {
+                // By a call (DECISIONS: large values are let go by name).
+                drop(prefix);
+                Err(error)
+            }
         }
+    }
+}
+
+/// A cache of a core of its own with the same room, where there is one. It holds no states of lazy DFAs.
+fn clone_rooms(
+    alloc: Global,
+    rooms: &Option<rx_strategy::Cache>,
+) -> Result<Option<rx_strategy::Cache>, Memory>
+    ensures fits { IfOk result (ServesMore rooms.now) }
+    ensures fixed { IfOk result (λ copy. rooms_fixed copy ≡ rooms_fixed rooms.now) }
+    ensures empty { IfOk result (λ copy. rooms_states copy ≡ 0) }
+{
+    match rooms {
+        Some(rooms) => match rooms.clone(alloc) {
+            Ok(copy) => Ok(Some(copy)),
+            Err(error) => Err(error),
+        },
+        None => Ok(None),
     }
 }
 

@@ -280,12 +280,20 @@ fn searched_by(
     let Some(inner) = inner_search(alloc, exprs)? else {
         return Ok(None);
     };
-    match PrefixDfa::new(alloc, config, &inner.prefix)? {
-        Some(prefix) => Ok(Some(Reading {
+    match PrefixDfa::new(alloc, config, &inner.prefix) {
+        Ok(Some(prefix)) => Ok(Some(Reading {
             pre: search_of(inner),
             prefix,
         })),
-        None => Ok(None),
+        Ok(None) => {
+            // By a call (DECISIONS: large values are let go by name).
+            drop(inner);
+            Ok(None)
+        }
+        Err(error) => {
+            drop(inner);
+            Err(error)
+        }
     }
 }
 
@@ -301,6 +309,8 @@ fn inner_search(alloc: Global, exprs: &[Hir]) -> Result<Option<InnerPrefilter>, 
     if inner_has_no_earlier_match(&inner.prefix, &inner.literals) {
         return Ok(Some(inner));
     }
+    // By a call (DECISIONS: large values are let go by name).
+    drop(inner);
     Ok(None)
 }
 

@@ -24,6 +24,7 @@ use rx_search::{HalfMatch, Input, Match, MatchKind, Memory, NonMaxUsize, Steps};
 use rx_strategy::{Cache, Config, Strategy};
 use std::alloc::Global;
 use std::marker::{Brand, Model};
+use std::mem::drop;
 use std::sync::ledger::{Blank, Ledger};
 
 /// A search for one expression by a literal that ends each of its matches: the span is searched for the literal, backwards from where it
@@ -65,9 +66,14 @@ impl ReverseSuffix {
         if !may_attempt(config, &core) {
             return Ok(Err(core));
         }
-        match suffix_search(alloc, exprs)? {
-            Some(pre) => Ok(Ok(ReverseSuffix { core, pre })),
-            None => Ok(Err(core)),
+        match suffix_search(alloc, exprs) {
+            Ok(Some(pre)) => Ok(Ok(ReverseSuffix { core, pre })),
+            Ok(None) => Ok(Err(core)),
+            Err(error) => {
+                // By a call (DECISIONS: large values are let go by name).
+                drop(core);
+                Err(error)
+            }
         }
     }
 

@@ -16,13 +16,6 @@ returns-in-Err-Dense-clause-answer c =
     ok-answers (λ r. HasTried s v c.args.tried r) (λ r. IsFor s r) (prefilter_in s) v (tried-core s v c.args.tried) (kind_in s) half_match_value
     c.search_half.result c.search_half.ensures.answer
 
-pub returns-in-Err-Retry-Quadratic-clause-answer : goal.returns-in-Err-Retry-Quadratic-clause-answer
-returns-in-Err-Retry-Quadratic-clause-answer c =
-    let s = c.args.core.now in
-    let v = c.args.input.now in
-    ok-answers (λ r. HasTried s v c.args.tried r) (λ r. IsFor s r) (prefilter_in s) v (tried-core s v c.args.tried) (kind_in s) half_match_value
-    c.search_half-in-Err-Retry-Quadratic.result c.search_half-in-Err-Retry-Quadratic.ensures.answer
-
 pub returns-in-Err-clause-answer : goal.returns-in-Err-clause-answer
 returns-in-Err-clause-answer c =
     let s = c.args.core.now in

@@ -29,26 +29,12 @@ returns-in-Err-Dense-clause-answer c =
     ok-answers (λ r. HasTried s v c.args.tried r) (λ r. IsFor s r) (prefilter_in s) v (tried-core s v c.args.tried) (kind_in s) match_value
     c.search_slots.result c.search_slots.ensures.answer
 
-pub returns-in-Err-Retry-Quadratic-clause-answer : goal.returns-in-Err-Retry-Quadratic-clause-answer
-returns-in-Err-Retry-Quadratic-clause-answer c =
-    let s = c.args.core.now in
-    let v = c.args.input.now in
-    ok-answers (λ r. HasTried s v c.args.tried r) (λ r. IsFor s r) (prefilter_in s) v (tried-core s v c.args.tried) (kind_in s) match_value
-    c.search_slots-in-Err-Retry-Quadratic.result c.search_slots-in-Err-Retry-Quadratic.ensures.answer
-
 pub returns-in-Err-Dense-clause-slots : goal.returns-in-Err-Dense-clause-slots
 returns-in-Err-Dense-clause-slots c =
     let s = c.args.core.now in
     let v = c.args.input.now in
     ok-slots (λ r. HasTried s v c.args.tried r) (λ r. IsFor s r) (prefilter_in s) v (tried-core s v c.args.tried) (kind_in s) match_value
     c.search_slots.new.slots c.search_slots.result c.search_slots.ensures.slots
-
-pub returns-in-Err-Retry-Quadratic-clause-slots : goal.returns-in-Err-Retry-Quadratic-clause-slots
-returns-in-Err-Retry-Quadratic-clause-slots c =
-    let s = c.args.core.now in
-    let v = c.args.input.now in
-    ok-slots (λ r. HasTried s v c.args.tried r) (λ r. IsFor s r) (prefilter_in s) v (tried-core s v c.args.tried) (kind_in s) match_value
-    c.search_slots-in-Err-Retry-Quadratic.new.slots c.search_slots-in-Err-Retry-Quadratic.result c.search_slots-in-Err-Retry-Quadratic.ensures.slots
 
 pub returns-in-Err-clause-answer : goal.returns-in-Err-clause-answer
 returns-in-Err-clause-answer c =

@@ -15,13 +15,6 @@ returns-in-Err-Dense-clause-value c =
     ok-whether (λ r. HasTriedWhether s v c.args.tried r) (λ r. IsFor s r) (prefilter_in s) v (whether-core s v c.args.tried) c.is_match.result
     c.is_match.ensures.value
 
-pub returns-in-Err-Retry-Quadratic-clause-value : goal.returns-in-Err-Retry-Quadratic-clause-value
-returns-in-Err-Retry-Quadratic-clause-value c =
-    let s = c.args.core.now in
-    let v = c.args.input.now in
-    ok-whether (λ r. HasTriedWhether s v c.args.tried r) (λ r. IsFor s r) (prefilter_in s) v (whether-core s v c.args.tried) c.is_match-in-Err-Retry-Quadratic.result
-    c.is_match-in-Err-Retry-Quadratic.ensures.value
-
 pub returns-in-Err-clause-value : goal.returns-in-Err-clause-value
 returns-in-Err-clause-value c =
     let s = c.args.core.now in

@@ -32,8 +32,8 @@ returns-in_default c =
           (subst (λ o. MatchOption o (if_inner_in_order (inner_of hs) ≡ None) (λ i. IsInnerFound hs i.prefix i.pre)) c.in_default.is c.in_ok-inner.ensures),
     )
 
-pub returns-in-Some-2 : goal.returns-in-Some-2
-returns-in-Some-2 c =
+pub returns-in-Ok-Some : goal.returns-in-Ok-Some
+returns-in-Ok-Some c =
     let config = c.args.config.now in
     let hs = c.args.exprs.now in
     let core = c.args.core.now in
@@ -41,17 +41,17 @@ returns-in-Some-2 c =
     let on = sym (c.may_attempt.ensures (alternation (expressions hs)) (made-properties config hs core c.requires)) ∙ c.if-not-may_attempt.false in
     let found : IsInnerFound hs prefix c.in-Some.inner.pre =
     subst (λ o. MatchOption o (if_inner_in_order (inner_of hs) ≡ None) (λ i. IsInnerFound hs i.prefix i.pre)) c.in-Some.is c.in_ok-inner.ensures in
-    let reads = subst (λ o. MatchOption o (HasNoPrefix config prefix) (IsPrefixOf config prefix)) c.in-Some-2.is c.in_ok-prefix.ensures in (
+    let reads = subst (λ o. MatchOption o (HasNoPrefix config prefix) (IsPrefixOf config prefix)) c.in-Ok-Some.field-0-is c.in-Ok-Some.ensures in (
       inner-made-of config core hs on prefix c.search_of.result
-          (subst (λ (needles : List (List ℕ)). IsInnerFound hs prefix needles) (sym c.search_of.ensures) found) c.in-Some-2.prefix reads _ refl,
+          (subst (λ (needles : List (List ℕ)). IsInnerFound hs prefix needles) (sym c.search_of.ensures) found) c.in-Ok-Some.prefix reads _ refl,
       record {
         there = attempts-dfas config core hs (alternation (expressions hs)) on;
         some = subst (λ (needles : List (List ℕ)). AreNotEmpty needles) (sym c.search_of.ensures) found.2;
       },
     )
 
-pub returns-in-None : goal.returns-in-None
-returns-in-None c =
+pub returns-in-Ok-None : goal.returns-in-Ok-None
+returns-in-Ok-None c =
     let config = c.args.config.now in
     let hs = c.args.exprs.now in
     let core = c.args.core.now in
@@ -59,5 +59,5 @@ returns-in-None c =
     let on = sym (c.may_attempt.ensures (alternation (expressions hs)) (made-properties config hs core c.requires)) ∙ c.if-not-may_attempt.false in
     let found : IsInnerFound hs prefix c.in-Some.inner.pre =
     subst (λ o. MatchOption o (if_inner_in_order (inner_of hs) ≡ None) (λ i. IsInnerFound hs i.prefix i.pre)) c.in-Some.is c.in_ok-inner.ensures in
-    let none = subst (λ o. MatchOption o (HasNoPrefix config prefix) (IsPrefixOf config prefix)) c.in-None.is c.in_ok-prefix.ensures in
+    let none = subst (λ o. MatchOption o (HasNoPrefix config prefix) (IsPrefixOf config prefix)) c.in-Ok-None.field-0-is c.in-Ok-None.ensures in
     (refl, inner-unread config core hs on prefix c.in-Some.inner.pre found none)

@@ -23,26 +23,26 @@ invariant_of-result c =
     let hs = c.args.exprs.now in
     let core = c.args.core in
     let all = alternation (expressions hs) in
-    let found = subst (λ (o : Option (List (List ℕ))). IsSuffixFound hs o) c.in-Some.is c.in_ok-pre.ensures in
+    let found = subst (λ (o : Option (List (List ℕ))). IsSuffixFound hs o) c.in-Ok-Some.field-0-is c.in-Ok-Some.ensures in
     record {
       there = attempts-dfas config core hs all (sym (c.may_attempt.ensures all (made-properties config hs core c.requires)) ∙ c.if-not-may_attempt.false);
       one = (found.0, found.1, found.2);
     }
 
-pub returns-in-Some : goal.returns-in-Some
-returns-in-Some c =
+pub returns-in-Ok-Some : goal.returns-in-Ok-Some
+returns-in-Ok-Some c =
     let config = c.args.config.now in
     let hs = c.args.exprs.now in
     let core = c.args.core in
     let all = alternation (expressions hs) in
-    let found = subst (λ (o : Option (List (List ℕ))). IsSuffixFound hs o) c.in-Some.is c.in_ok-pre.ensures in
-    suffix-of config core hs (sym (c.may_attempt.ensures all (made-properties config hs core c.requires)) ∙ c.if-not-may_attempt.false) c.in-Some.pre found _ refl
+    let found = subst (λ (o : Option (List (List ℕ))). IsSuffixFound hs o) c.in-Ok-Some.field-0-is c.in-Ok-Some.ensures in
+    suffix-of config core hs (sym (c.may_attempt.ensures all (made-properties config hs core c.requires)) ∙ c.if-not-may_attempt.false) c.in-Ok-Some.pre found _ refl
 
-pub returns-in-None : goal.returns-in-None
-returns-in-None c =
+pub returns-in-Ok-None : goal.returns-in-Ok-None
+returns-in-Ok-None c =
     let config = c.args.config.now in
     let hs = c.args.exprs.now in
     let core = c.args.core in
     let all = alternation (expressions hs) in
-    let found = subst (λ (o : Option (List (List ℕ))). IsSuffixFound hs o) c.in-None.is c.in_ok-pre.ensures in
+    let found = subst (λ (o : Option (List (List ℕ))). IsSuffixFound hs o) c.in-Ok-None.field-0-is c.in-Ok-None.ensures in
     (refl, suffix-none config core hs (sym (c.may_attempt.ensures all (made-properties config hs core c.requires)) ∙ c.if-not-may_attempt.false) found)
