@@ -1,6 +1,6 @@
 use Rattle.std.proofs.Common.{arith, ◌∙◌, ap, Ok}
 use Rattle.std.specs.Prelude.{Option}
-use Rattle.std.proofs.lemmas.Result.{err_from_is_err_and}
+use Rattle.std.proofs.lemmas.Result.{err_from_is_err_and, IfOk-from_err}
 use Rattle.rx_reader.specs.declared.class_item.ClassItem.{ClassItem}
 use Rattle.rx_reader.specs.Input.{place}
 use Rattle.rx_reader.specs.Reading.{Place, Read}
@@ -37,3 +37,6 @@ loop-items-preserved c =
           ∙ ap (λ (o : Option ClassItem). found o (place c.class_item.new.cursor)) c.in-Some.is));
       moves = omega (arith, s.invariant.moves, c.in_ok-item.ensures.progress);
     }
+
+pub returns-in_err-item-clause-progress : goal.returns-in_err-item-clause-progress
+returns-in_err-item-clause-progress c = IfOk-from_err c.from_residual.result _ c.from_residual.ensures.0

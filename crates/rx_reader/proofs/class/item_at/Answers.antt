@@ -1,6 +1,7 @@
+use Rattle.std.proofs.Math.Nat.{le_trans, lt_of_le_of_lt}
 use Rattle.std.proofs.Common.{arith, ◌≡◌, sym, subst}
 use Rattle.std.proofs.lemmas.Grind.{common_steps}
-use Rattle.std.proofs.lemmas.Result.{err_from_is_err_and}
+use Rattle.std.proofs.lemmas.Result.{err_from_is_err_and, IfOk-from_err, on_ok_weaker}
 use Rattle.rx_reader.specs.Input.{place, Reads}
 use Rattle.rx_reader.proofs.lemmas.places.ReadsLemmas.{refuses_from, refuses}
 use Rattle.rx_reader.specs.Classes.{item_at, posix, class_range, member}
@@ -34,3 +35,11 @@ returns-clause-value c from piece =
     let same : item_at octal skips from p ≡ class_range octal skips from p c.in_ok-low.low (place c.skip_white.new.self) = grind (arith, common_steps) in
     subst (λ reading. Reads c.class_range.result reading (place c.class_range.new.cursor)) (sym same)
     (c.class_range.ensures.value from p piece c.at-start.ensures)
+
+pub returns-in_err-low-clause-progress : goal.returns-in_err-low-clause-progress
+returns-in_err-low-clause-progress c = IfOk-from_err c.from_residual.result _ c.from_residual.ensures.0
+
+pub returns-clause-progress : goal.returns-clause-progress
+returns-clause-progress c =
+    on_ok_weaker c.class_range.result (λ le. lt_of_le_of_lt (le_trans le c.skip_white.ensures.progress) c.in_ok-low.ensures.progress)
+    c.class_range.ensures.progress

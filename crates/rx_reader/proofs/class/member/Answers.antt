@@ -1,6 +1,6 @@
 use Rattle.std.proofs.Common.{arith, ◌≡◌, sym, subst}
 use Rattle.std.proofs.lemmas.Grind.{common_steps}
-use Rattle.std.proofs.lemmas.Result.{err_from_is_err_and}
+use Rattle.std.proofs.lemmas.Result.{err_from_is_err_and, IfOk-from_err}
 use Rattle.rx_reader.specs.Input.{place, Reads}
 use Rattle.rx_reader.proofs.lemmas.places.ReadsLemmas.{refuses_from, refuses}
 use Rattle.rx_reader.specs.Escapes.{escape}
@@ -38,3 +38,9 @@ returns-then-is_at-2-clause-value c = grind (arith, common_steps)
 pub returns-clause-value : goal.returns-clause-value
 unfolding member
 returns-clause-value c = rw c.plain.ensures (grind (arith, common_steps))
+
+pub returns-in_err-escaped-clause-progress : goal.returns-in_err-escaped-clause-progress
+returns-in_err-escaped-clause-progress c = IfOk-from_err c.from_residual.result _ c.from_residual.ensures.0
+
+pub returns-in_err-posix-clause-progress : goal.returns-in_err-posix-clause-progress
+returns-in_err-posix-clause-progress c = IfOk-from_err c.from_residual-in_err-posix.result _ c.from_residual-in_err-posix.ensures.0

@@ -1,6 +1,6 @@
 use Rattle.std.proofs.Common.{◌≡◌, ◌∙◌, ap, sym, Bool, Ok}
 use Rattle.std.specs.Prelude.{if◌then◌else◌}
-use Rattle.std.proofs.lemmas.Result.{err_from_is_err_and}
+use Rattle.std.proofs.lemmas.Result.{err_from_is_err_and, IfOk-from_err}
 use Rattle.rx_reader.specs.declared.opening.Opening.TheVariants.{Group, Directive}
 use Rattle.rx_reader.specs.declared.group_kind.GroupKind.TheVariants.{NonCapturing}
 use Rattle.rx_reader.specs.Input.{place}
@@ -29,3 +29,6 @@ returns-clause-value c =
     c.opening_of.ensures ∙ ap (λ (b : Bool). if b then Group NonCapturing inside else Directive inside) c.is_at-is_group.ensures.value in
     flagged_read p begun q c.args.flags inside c.bump_by.ensures.value (c.in_ok-flags.ensures.value p c.here-opening.ensures)
     ∙ (λ i. Ok (sym opened i, sym c.bump.ensures.value i))
+
+pub returns-in_err-flags-clause-progress : goal.returns-in_err-flags-clause-progress
+returns-in_err-flags-clause-progress c = IfOk-from_err c.from_residual.result _ c.from_residual.ensures.0

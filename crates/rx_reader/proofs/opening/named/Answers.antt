@@ -1,5 +1,5 @@
 use Rattle.std.proofs.Common.{◌∙◌, ap, sym, Ok}
-use Rattle.std.proofs.lemmas.Result.{err_from_is_err_and}
+use Rattle.std.proofs.lemmas.Result.{err_from_is_err_and, IfOk-from_err}
 use Rattle.rx_reader.specs.declared.opening.Opening.TheVariants.{Group}
 use Rattle.rx_reader.specs.declared.group_kind.GroupKind.TheVariants.{CaptureName}
 use Rattle.rx_reader.specs.Input.{place}
@@ -23,3 +23,6 @@ returns-clause-value c =
     let q = place c.read_name.new.cursor in
     ap (named c.args.flags) (sym c.bump_by.ensures.value) ∙ named_read p q c.args.flags c.in_ok-name.name c.in_ok-name.ensures.value
     ∙ (λ i. Ok (Group (CaptureName (sym c.count_group-index.ensures.number i) c.in_ok-name.name) c.args.flags, sym c.count_group-index.ensures.place i))
+
+pub returns-in_err-name-clause-progress : goal.returns-in_err-name-clause-progress
+returns-in_err-name-clause-progress c = IfOk-from_err c.from_residual.result _ c.from_residual.ensures.0

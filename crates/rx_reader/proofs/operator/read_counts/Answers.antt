@@ -1,5 +1,6 @@
+use Rattle.std.proofs.Math.Nat.{le_trans, lt_of_le_of_lt}
 use Rattle.std.proofs.Common.{sym, subst}
-use Rattle.std.proofs.lemmas.Result.{err_from_is_err_and}
+use Rattle.std.proofs.lemmas.Result.{err_from_is_err_and, IfOk-from_err, on_ok_weaker}
 use Rattle.rx_reader.specs.Input.{place, Reads}
 use Rattle.rx_reader.specs.Counts.{read_number, max_after}
 use Rattle.rx_reader.proofs.lemmas.places.ReadsLemmas.{refuses_from, refuses}
@@ -33,3 +34,29 @@ returns-clause-value c =
     c.in_ok-max.max c.bump.ensures.value
     (c.in_ok-min.ensures.value p c.at-start.ensures) (c.in_ok-max.ensures.value p c.at-start.ensures) in
     subst (λ reading. Reads c.close_counts.result reading (place c.close_counts.new.cursor)) (sym same) (c.close_counts.ensures.value p c.at-start.ensures)
+
+pub returns-in_err-min-clause-in_order : goal.returns-in_err-min-clause-in_order
+returns-in_err-min-clause-in_order c = IfOk-from_err c.from_residual.result _ c.from_residual.ensures.0
+
+pub returns-in_err-min-clause-progress : goal.returns-in_err-min-clause-progress
+returns-in_err-min-clause-progress c = IfOk-from_err c.from_residual.result _ c.from_residual.ensures.0
+
+pub returns-in_err-min-clause-kept : goal.returns-in_err-min-clause-kept
+returns-in_err-min-clause-kept c h = c.read_number.ensures.kept (c.bump.ensures.kept h)
+
+pub returns-in_err-max-clause-in_order : goal.returns-in_err-max-clause-in_order
+returns-in_err-max-clause-in_order c = IfOk-from_err c.from_residual-in_err-max.result _ c.from_residual-in_err-max.ensures.0
+
+pub returns-in_err-max-clause-progress : goal.returns-in_err-max-clause-progress
+returns-in_err-max-clause-progress c = IfOk-from_err c.from_residual-in_err-max.result _ c.from_residual-in_err-max.ensures.0
+
+pub returns-in_err-max-clause-kept : goal.returns-in_err-max-clause-kept
+returns-in_err-max-clause-kept c h = c.max_after.ensures.kept (c.read_number.ensures.kept (c.bump.ensures.kept h))
+
+pub returns-clause-progress : goal.returns-clause-progress
+returns-clause-progress c =
+    let before = lt_of_le_of_lt (le_trans c.in_ok-max.ensures.progress c.in_ok-min.ensures.progress) (c.bump.ensures.progress c.requires) in
+    on_ok_weaker c.close_counts.result (λ le. lt_of_le_of_lt le before) c.close_counts.ensures.progress
+
+pub returns-clause-kept : goal.returns-clause-kept
+returns-clause-kept c h = c.close_counts.ensures.kept (c.max_after.ensures.kept (c.read_number.ensures.kept (c.bump.ensures.kept h)))

@@ -1,5 +1,6 @@
+use Rattle.std.proofs.Math.Nat.{le_trans}
 use Rattle.std.proofs.Common.{◌≡◌, ◌∙◌, sym, false}
-use Rattle.std.proofs.lemmas.Result.{err_from_is_err_and}
+use Rattle.std.proofs.lemmas.Result.{err_from_is_err_and, IfOk-from_err}
 use Rattle.rx_reader.specs.Input.{place}
 use Rattle.rx_reader.specs.Reading.{is_at}
 use Rattle.rx_reader.specs.Counts.{read_number}
@@ -26,3 +27,15 @@ returns-clause-value c from start =
     let more : is_at "}" q ≡ false = sym c.is_at.ensures.value ∙ c.if-is_at.false in
     max_some from (place c.args.cursor.now) q (place c.read_number.new.cursor) c.args.flags c.in_ok-number.number c.skip_white.ensures.value more
     (c.in_ok-number.ensures.value from start)
+
+pub returns-in_err-number-clause-progress : goal.returns-in_err-number-clause-progress
+returns-in_err-number-clause-progress c = IfOk-from_err c.from_residual.result _ c.from_residual.ensures.0
+
+pub returns-in_err-number-clause-kept : goal.returns-in_err-number-clause-kept
+returns-in_err-number-clause-kept c h = c.read_number.ensures.kept (c.skip_white.ensures.kept h)
+
+pub returns-clause-progress : goal.returns-clause-progress
+returns-clause-progress c = le_trans c.in_ok-number.ensures.progress c.skip_white.ensures.progress
+
+pub returns-clause-kept : goal.returns-clause-kept
+returns-clause-kept c h = c.read_number.ensures.kept (c.skip_white.ensures.kept h)

@@ -1,3 +1,4 @@
+use Rattle.std.proofs.Math.Nat.{le_trans}
 use Rattle.std.proofs.Common.{◌≡◌, ◌∙◌, ap, sym, refl, length, ℕ, List, Option, Some, None, Ok}
 use Rattle.std.specs.List.{take_while}
 use Rattle.std.specs.Char.{is_ascii_digit}
@@ -35,3 +36,12 @@ returns-in-None-clause-value c from start =
     rw c.refuse_from.ensures (
     number_read from (place c.args.cursor.now) begun q c.args.flags n c.skip_white.ensures.value len c.bump_by.ensures.value
     ∙ ap (λ (o : Option ℕ). number_at from c.args.flags o q) number ∙ refuse_at RepeatCount from q c.args.start q.at start refl)
+
+pub returns-in-Some-clause-progress : goal.returns-in-Some-clause-progress
+returns-in-Some-clause-progress c = le_trans c.skip_white-in-Some.ensures.progress (le_trans c.bump_by.ensures.progress c.skip_white.ensures.progress)
+
+pub returns-in-Some-clause-kept : goal.returns-in-Some-clause-kept
+returns-in-Some-clause-kept c h = c.skip_white-in-Some.ensures.kept (c.bump_by.ensures.kept (c.skip_white.ensures.kept h))
+
+pub returns-in-None-clause-kept : goal.returns-in-None-clause-kept
+returns-in-None-clause-kept c h = c.bump_by.ensures.kept (c.skip_white.ensures.kept h)

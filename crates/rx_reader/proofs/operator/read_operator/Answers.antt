@@ -1,5 +1,6 @@
+use Rattle.std.proofs.Math.Nat.{lt_of_le_of_lt}
 use Rattle.std.proofs.Common.{◌≡◌, ◌∙◌, ap, sym, refl, true, false}
-use Rattle.std.proofs.lemmas.Result.{err_from_is_err_and}
+use Rattle.std.proofs.lemmas.Result.{err_from_is_err_and, IfOk-from_err}
 use Rattle.rx_reader.specs.declared.error.SyntaxErrorKind.TheVariants.{Unsupported}
 use Rattle.rx_reader.specs.Input.{place}
 use Rattle.rx_reader.specs.Reading.{Place, first, is_at, begins}
@@ -48,3 +49,27 @@ returns-clause-value c =
     operator_counted p q c.args.flags counts simple without c.in_ok-counts.ensures.value
     ∙ operator_is c.args.flags counts counts q (skip c.args.flags q) (place c.bump_over_lazy-lazy.new.self) c.bump_over_lazy-lazy.result c.with_greed-2.result
     refl c.bump_over_lazy-lazy.ensures.value c.with_greed-2.ensures c.bump_over_lazy-lazy.ensures.place
+
+pub returns-then-is_at-clause-in_order : goal.returns-then-is_at-clause-in_order
+returns-then-is_at-clause-in_order c = rw c.with_greed.ensures c.counts_of-counts.ensures.in_order
+
+pub returns-then-is_at-clause-progress : goal.returns-then-is_at-clause-progress
+returns-then-is_at-clause-progress c = lt_of_le_of_lt c.bump_over_question-lazy.ensures.progress (c.bump.ensures.progress c.requires)
+
+pub returns-then-is_at-clause-kept : goal.returns-then-is_at-clause-kept
+returns-then-is_at-clause-kept c h = c.bump_over_question-lazy.ensures.kept (c.bump.ensures.kept h)
+
+pub returns-in_err-counts-clause-in_order : goal.returns-in_err-counts-clause-in_order
+returns-in_err-counts-clause-in_order c = IfOk-from_err c.from_residual.result _ c.from_residual.ensures.0
+
+pub returns-in_err-counts-clause-progress : goal.returns-in_err-counts-clause-progress
+returns-in_err-counts-clause-progress c = IfOk-from_err c.from_residual.result _ c.from_residual.ensures.0
+
+pub returns-clause-in_order : goal.returns-clause-in_order
+returns-clause-in_order c = rw c.with_greed-2.ensures c.in_ok-counts.ensures.in_order
+
+pub returns-clause-progress : goal.returns-clause-progress
+returns-clause-progress c = lt_of_le_of_lt c.bump_over_lazy-lazy.ensures.progress c.in_ok-counts.ensures.progress
+
+pub returns-clause-kept : goal.returns-clause-kept
+returns-clause-kept c h = c.bump_over_lazy-lazy.ensures.kept (c.read_counts.ensures.kept h)

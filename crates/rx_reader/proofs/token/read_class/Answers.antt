@@ -1,4 +1,4 @@
-use Rattle.std.proofs.lemmas.Result.{err_from_is_err_and}
+use Rattle.std.proofs.lemmas.Result.{err_from_is_err_and, IfOk-from_err}
 use Rattle.rx_reader.specs.Input.{place}
 use Rattle.rx_reader.specs.Classes.{class}
 use Rattle.rx_reader.proofs.lemmas.places.ReadsLemmas.{refuses_from, refuses}
@@ -20,3 +20,9 @@ returns-clause-value c =
     bracketed-ok c.args.config c.get_octal.result c.args.flags p c.in_ok-atom.atom q c.piece_from-piece.result c.atom.result c.get_octal.ensures
     c.in_ok-atom.ensures.value
     (piece_between c.at-start.result p q c.piece_from-piece.result c.piece_from-piece.ensures c.at-start.ensures) c.atom.ensures
+
+pub returns-in_err-atom-clause-kind : goal.returns-in_err-atom-clause-kind
+returns-in_err-atom-clause-kind c = IfOk-from_err c.from_residual.result _ c.from_residual.ensures.0
+
+pub returns-in_err-atom-clause-progress : goal.returns-in_err-atom-clause-progress
+returns-in_err-atom-clause-progress c = IfOk-from_err c.from_residual.result _ c.from_residual.ensures.0

@@ -1,4 +1,6 @@
-use Rattle.std.proofs.Common.{arith, ◌≡◌, ◌∙◌}
+use Rattle.rx_reader.specs.Tokens.{IsOneMore}
+use Rattle.std.proofs.lemmas.Result.{IfOk-weaker}
+use Rattle.std.proofs.Common.{arith, ◌≡◌, ◌∙◌, sym, true≢false}
 use Rattle.std.proofs.lemmas.Grind.{common_steps}
 use Rattle.std.proofs.lemmas.Bool.Decides.{nat_tests}
 use Rattle.rx_reader.specs.Input.{place}
@@ -58,3 +60,39 @@ returns-in-36-clause-value c =
 pub returns-in_default-clause-value : goal.returns-in_default-clause-value
 unfolding token_of
 returns-in_default-clause-value c = grind (arith, common_steps, nat_tests)
+
+pub returns-in-40-clause-more : goal.returns-in-40-clause-more
+returns-in-40-clause-more c = IfOk-weaker c.read_opens.result IsOneMore _ (λ t k. k.0) c.read_opens.ensures.kind
+
+pub returns-in-40-clause-close : goal.returns-in-40-clause-close
+returns-in-40-clause-close c = IfOk-weaker c.read_opens.result IsOneMore _ (λ t k h. absurd (true≢false (sym h ∙ k.1))) c.read_opens.ensures.kind
+
+pub returns-in-91-clause-more : goal.returns-in-91-clause-more
+returns-in-91-clause-more c = IfOk-weaker c.read_class.result IsOneMore _ (λ t k. k.0) c.read_class.ensures.kind
+
+pub returns-in-91-clause-close : goal.returns-in-91-clause-close
+returns-in-91-clause-close c = IfOk-weaker c.read_class.result IsOneMore _ (λ t k h. absurd (true≢false (sym h ∙ k.1))) c.read_class.ensures.kind
+
+pub returns-in-92-clause-more : goal.returns-in-92-clause-more
+returns-in-92-clause-more c = IfOk-weaker c.read_escape.result IsOneMore _ (λ t k. k.0) c.read_escape.ensures.kind
+
+pub returns-in-92-clause-close : goal.returns-in-92-clause-close
+returns-in-92-clause-close c = IfOk-weaker c.read_escape.result IsOneMore _ (λ t k h. absurd (true≢false (sym h ∙ k.1))) c.read_escape.ensures.kind
+
+pub returns-in-46-clause-more : goal.returns-in-46-clause-more
+returns-in-46-clause-more c = c.read_single.ensures.kind.0
+
+pub returns-in-46-clause-close : goal.returns-in-46-clause-close
+returns-in-46-clause-close c h = absurd (true≢false (sym h ∙ c.read_single.ensures.kind.1))
+
+pub returns-in-94-clause-more : goal.returns-in-94-clause-more
+returns-in-94-clause-more c = c.read_single-in-94.ensures.kind.0
+
+pub returns-in-94-clause-close : goal.returns-in-94-clause-close
+returns-in-94-clause-close c h = absurd (true≢false (sym h ∙ c.read_single-in-94.ensures.kind.1))
+
+pub returns-in-36-clause-more : goal.returns-in-36-clause-more
+returns-in-36-clause-more c = c.read_single-in-36.ensures.kind.0
+
+pub returns-in-36-clause-close : goal.returns-in-36-clause-close
+returns-in-36-clause-close c h = absurd (true≢false (sym h ∙ c.read_single-in-36.ensures.kind.1))

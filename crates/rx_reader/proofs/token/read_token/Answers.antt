@@ -1,4 +1,6 @@
-use Rattle.std.proofs.Common.{◌≡◌, ◌∙◌, sym, true, false}
+use Rattle.std.proofs.lemmas.Result.{IfOk-weaker, on_ok_weaker}
+use Rattle.std.proofs.Math.Nat.{le_of_lt}
+use Rattle.std.proofs.Common.{◌≡◌, ◌∙◌, sym, true, false, inr, true≢false}
 use Rattle.rx_reader.specs.Input.{place}
 use Rattle.rx_reader.specs.Reading.{at_end}
 use Rattle.rx_reader.specs.Grammar.{is_operator}
@@ -25,3 +27,17 @@ returns-clause-value c =
     let more : at_end p ≡ false = sym c.is_at_end.ensures.value ∙ c.if-is_at_end.false in
     let none : is_operator p ≡ false = sym c.is_at.ensures.value ∙ c.if-is_at.false in
     rw (token-some c.args.config c.args.flags p more none) c.read_some_token.ensures.value
+
+pub returns-clause-progress : goal.returns-clause-progress
+returns-clause-progress c = IfOk-weaker c.read_some_token.result _ _ (λ t lt. inr lt) c.read_some_token.ensures.progress
+
+pub returns-clause-moves : goal.returns-clause-moves
+returns-clause-moves c = on_ok_weaker c.read_some_token.result le_of_lt c.read_some_token.ensures.progress
+
+pub returns-clause-end : goal.returns-clause-end
+returns-clause-end c =
+    let more : at_end (place c.args.cursor.now) ≡ false = sym c.is_at_end.ensures.value ∙ c.if-is_at_end.false in
+    IfOk-weaker c.read_some_token.result _ _ (λ t m. m ∙ sym more) c.read_some_token.ensures.more
+
+pub returns-clause-stays : goal.returns-clause-stays
+returns-clause-stays c = IfOk-weaker c.read_some_token.result _ _ (λ t m h. absurd (true≢false (sym h ∙ m))) c.read_some_token.ensures.more

@@ -1,5 +1,5 @@
 use Rattle.std.proofs.Common.{◌∙◌, sym, ap}
-use Rattle.std.proofs.lemmas.Result.{err_from_is_err_and}
+use Rattle.std.proofs.lemmas.Result.{err_from_is_err_and, IfOk-from_err}
 use Rattle.rx_reader.specs.Input.{place}
 use Rattle.rx_reader.specs.Grammar.{all_repetitions}
 use Rattle.rx_reader.specs.Stack.{Gathered, gathered, innermost, resume, reads_on}
@@ -24,3 +24,6 @@ returns-clause-value c =
     let r = place c.repetitions.new.cursor in
     ap (λ (g : Gathered). resume s.config fs g (reads_on s s.flags r)) c.in_ok-push.ensures
     ∙ sym (resume-item s.config fs (gathered s.level) (reads_on s s.flags) s.flags c.args.item p c.in_ok-item.item r c.in_ok-item.ensures.value)
+
+pub returns-in_err-item-clause-progress : goal.returns-in_err-item-clause-progress
+returns-in_err-item-clause-progress c = IfOk-from_err c.from_residual.result _ c.from_residual.ensures.0

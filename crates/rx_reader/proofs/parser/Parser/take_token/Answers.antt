@@ -1,6 +1,7 @@
-use Rattle.std.proofs.Common.{true, false, ◌≡◌, Ok, ◌∙◌, sym, ap, subst}
+use Rattle.std.proofs.Math.Nat.{le_trans, lt_of_le_of_lt}
+use Rattle.std.proofs.Common.{true, false, ◌≡◌, Ok, ◌∙◌, sym, ap, subst, ℕ, ◌<◌, ◌⊎◌, Bool, inl, inr, true≢false}
 use Rattle.std.specs.Prelude.{MatchResult, Result}
-use Rattle.std.proofs.lemmas.Result.{err_from_is_err_and}
+use Rattle.std.proofs.lemmas.Result.{err_from_is_err_and, IfOk-from_err, on_ok_weaker}
 use Rattle.rx_reader.specs.Input.{place, Refuses}
 use Rattle.rx_reader.specs.Syntax.{Syntax}
 use Rattle.rx_reader.specs.declared.error.SyntaxError.{SyntaxError}
@@ -14,6 +15,11 @@ use Rattle.rx_reader.proofs.lemmas.places.ReadsLemmas.{refuses_from, refuses}
 use Rattle.rx_reader.proofs.lemmas.branches.BranchLemmas.{token-end}
 use Rattle.rx_reader.proofs.lemmas.branches.StackLemmas.{resume-token, resume-token_err, resume-bar, resume-end}
 use Rattle.rx_reader.proofs.parser.Parser.take_token.Goals as goal
+
+-- a token that is not the end leaves less to read
+shorter : (b : Bool) (n m : ℕ) → (b ≡ true) ⊎ (n < m) → b ≡ false → n < m
+shorter b n m (inl ends) more = absurd (true≢false (sym ends ∙ more))
+shorter b n m (inr lt) more = lt
 
 found : Token → Place → Read Token
 found t q = Ok (t, q)
@@ -95,3 +101,42 @@ returns-in-Atom-clause-value c =
     let same = resume-token s.config (innermost s.frames.items) (gathered s.level) s.flags (opened_in s) p (One c.in-Atom.ast) q tok in
     subst (λ (x : Result Syntax SyntaxError). MatchResult c.take_item.result (λ _. answer c.take_item.new.self ≡ x) (λ e. Refuses e x)) (sym same)
     (c.take_item.ensures.value)
+
+pub returns-in_err-read_token-clause-progress : goal.returns-in_err-read_token-clause-progress
+returns-in_err-read_token-clause-progress c = IfOk-from_err c.from_residual.result _ c.from_residual.ensures.0
+
+pub returns-in_err-read_token-clause-moves : goal.returns-in_err-read_token-clause-moves
+returns-in_err-read_token-clause-moves c = IfOk-from_err c.from_residual.result _ c.from_residual.ensures.0
+
+pub returns-in-End-clause-progress : goal.returns-in-End-clause-progress
+returns-in-End-clause-progress c = inl (sym c.in_ok-read_token.ensures.end ∙ ap is_end c.in-End.is)
+
+pub returns-in_ok-end_branch-in-Bar-clause-progress : goal.returns-in_ok-end_branch-in-Bar-clause-progress
+returns-in_ok-end_branch-in-Bar-clause-progress c = inr (shorter _ _ _ c.in_ok-read_token.ensures.progress (ap is_end c.in-Bar.is))
+
+pub returns-in-Directive-clause-progress : goal.returns-in-Directive-clause-progress
+returns-in-Directive-clause-progress c = inr (shorter _ _ _ c.in_ok-read_token.ensures.progress (ap is_end c.in-Directive.is))
+
+pub returns-in-Close-clause-progress : goal.returns-in-Close-clause-progress
+returns-in-Close-clause-progress c =
+    let lt = shorter _ _ _ c.in_ok-read_token.ensures.progress (ap is_end c.in-Close.is) in
+    on_ok_weaker c.close_group.result (λ le. inr (lt_of_le_of_lt le lt)) c.close_group.ensures.progress
+
+pub returns-in-Close-clause-moves : goal.returns-in-Close-clause-moves
+returns-in-Close-clause-moves c = on_ok_weaker c.close_group.result (λ le. le_trans le c.in_ok-read_token.ensures.moves) c.close_group.ensures.progress
+
+pub returns-in-Opens-clause-progress : goal.returns-in-Opens-clause-progress
+returns-in-Opens-clause-progress c =
+    let lt = shorter _ _ _ c.in_ok-read_token.ensures.progress (ap is_end c.in-Opens.is) in
+    on_ok_weaker c.open_group.result (λ le. inr (lt_of_le_of_lt le lt)) c.open_group.ensures.progress
+
+pub returns-in-Opens-clause-moves : goal.returns-in-Opens-clause-moves
+returns-in-Opens-clause-moves c = on_ok_weaker c.open_group.result (λ le. le_trans le c.in_ok-read_token.ensures.moves) c.open_group.ensures.progress
+
+pub returns-in-Atom-clause-progress : goal.returns-in-Atom-clause-progress
+returns-in-Atom-clause-progress c =
+    let lt = shorter _ _ _ c.in_ok-read_token.ensures.progress (ap is_end c.in-Atom.is) in
+    on_ok_weaker c.take_item.result (λ le. inr (lt_of_le_of_lt le lt)) c.take_item.ensures.progress
+
+pub returns-in-Atom-clause-moves : goal.returns-in-Atom-clause-moves
+returns-in-Atom-clause-moves c = on_ok_weaker c.take_item.result (λ le. le_trans le c.in_ok-read_token.ensures.moves) c.take_item.ensures.progress
