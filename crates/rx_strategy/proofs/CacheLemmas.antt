@@ -1,6 +1,6 @@
 -- Caches that were grown, and what is accounted for them.
-use Rattle.std.proofs.Common.{◌≡◌, ℕ, ◌+◌, ◌-◌, ◌^◌, ◌≤◌, min, refl, sym, ap, ◌∙◌, subst, arith}
-use Rattle.std.specs.Prelude.{false, Result, Ok, Err, OnErr, Option, Some, None, IfSome, IsSomeAnd}
+use Rattle.std.proofs.Common.{◌≡◌, ℕ, ◌+◌, ◌-◌, ◌^◌, ◌≤◌, min, refl, sym, ap, ◌∙◌, subst, arith, true≢false}
+use Rattle.std.specs.Prelude.{false, Result, Ok, Err, OnOk, OnErr, IsErr, Option, Some, None, IfSome, IsSomeAnd}
 use Rattle.rx_dfa.specs.Lazy.{LazyValue}
 use Rattle.rx_dfa.specs.LazyCache.{IsCacheOf}
 use Rattle.rx_engines.specs.Engine.{PikeVMValue, Fits as FitsPikeVM}
@@ -19,6 +19,10 @@ use Rattle.rx_strategy.specs.declared.strategy.Strategy.TheVariants.{Core}
 pub on-err : {T E P : Type 0} (r : Result T E) → P → OnErr r P
 on-err (Ok x) p = tt
 on-err (Err e) p = p
+
+pub ok-of-err : {T E : Type 0} (P : Type 0) (r : Result T E) → IsErr r → OnOk r P
+ok-of-err P (Ok x) is = absurd (true≢false (sym is))
+ok-of-err P (Err e) is = tt
 
 -- each part fits what it fitted, and so does the whole
 module _ (old new : CacheValue) (pikevm : (vm : PikeVMValue) → FitsPikeVM vm old.pikevm → FitsPikeVM vm new.pikevm)

@@ -11,4 +11,7 @@ pub mod EndingLemmas
 pub mod AttemptLemmas
 pub mod CacheLemmas
 pub mod CoreLemmas
+pub mod PairLemmas
+pub mod PartLemmas
+pub mod BacktrackLemmas
 pub mod ThreadLemmas

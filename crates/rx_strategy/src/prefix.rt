@@ -17,6 +17,7 @@ use rx_nfa::{BuildError, Compiler, NFA};
 use rx_search::{MatchKind, Memory};
 use std::alloc::Global;
 use std::marker::Model;
+use std::mem::drop;
 
 /// A DFA that reads an expression backwards from where literals behind it lie, with the NFA that it was made of. It tells the least start
 /// that the expression has there, also one inside a character.
@@ -200,7 +201,10 @@ impl PrefixCache {
                     cache.renew(room);
                 }
             }
-            Missing::Cache(cache) => self.lazy = Some(cache),
+            Missing::Cache(cache) => {
+                // By a call (DECISIONS: large values are let go by name).
+                drop(self.lazy.replace(cache));
+            }
         }
     }
 

@@ -11,6 +11,7 @@ use Rattle.rx_strategy.specs.Dfas.{ServeNfa}
 use Rattle.rx_strategy.specs.OnePass.{ServesOnce}
 use Rattle.rx_strategy.proofs.CoreLemmas.{engines-agree, dfas-serve}
 use Rattle.rx_strategy.proofs.OnePassLemmas.{serves-once}
+use Rattle.std.proofs.lemmas.Result.{IfOk-from_err}
 use Rattle.rx_strategy.proofs.strategy.engines.Core.new.Goals as goal
 
 pub invariant_of-result : goal.invariant_of-result
@@ -30,3 +31,15 @@ invariant_of-result c =
           (serves-once c.args.config.now c.args.nfa c.args.info.properties c.in_ok-parts.parts.onepass c.in_ok-parts.ensures.onepass
           (alternation (expressions c.requires.known.patterns)) c.requires.known.properties),
     )
+
+pub returns-in_err-parts-clause-core : goal.returns-in_err-parts-clause-core
+returns-in_err-parts-clause-core c =
+    IfOk-from_err c.from_residual.result _ c.from_residual.ensures.0
+
+pub returns-in_err-parts-clause-onepass : goal.returns-in_err-parts-clause-onepass
+returns-in_err-parts-clause-onepass c =
+    IfOk-from_err c.from_residual.result _ c.from_residual.ensures.0
+
+pub returns-in_err-parts-clause-dfas : goal.returns-in_err-parts-clause-dfas
+returns-in_err-parts-clause-dfas c =
+    IfOk-from_err c.from_residual.result _ c.from_residual.ensures.0

@@ -6,6 +6,8 @@ use Rattle.rx_strategy.specs.Core.{IsToldFor}
 use Rattle.rx_strategy.specs.OnePass.{begun}
 use Rattle.rx_strategy.proofs.AnswerLemmas.{searched-told}
 use Rattle.rx_strategy.proofs.OnePassLemmas.{begun-told, one-over}
+use Rattle.rx_strategy.specs.Cache.{CacheValue}
+use Rattle.rx_strategy.proofs.PartLemmas.{fit-before, onepass-fit, onepass-alike, one-serves, one-again}
 use Rattle.rx_strategy.proofs.strategy.engines.Core.search_nofail.Goals as goal
 
 pub find_in_one_pass-requires-clause-each : goal.find_in_one_pass-requires-clause-each
@@ -28,3 +30,23 @@ pub returns-in-None-clause-told : goal.returns-in-None-clause-told
 returns-in-None-clause-told c r of begins =
     let core = c.args.self.now in
     searched-told core c.args.input.now core.kind c.search_states.new.slots c.search_states.result (c.search_states.ensures.answer begins) r of
+
+pub find_in_one_pass-requires-clause-fits : goal.find_in_one_pass-requires-clause-fits
+find_in_one_pass-requires-clause-fits c =
+    let was = c.cache.inside in
+    let held : CacheValue = record { pikevm = was.pikevm; onepass = was.onepass; backtrack = was.backtrack; lazies = was.lazies; memory = was.memory } in
+    one-serves c.args.self.now.onepass c.in-Some.engine.now held.onepass c.in-Some.ensures.serves.1
+    (fit-before c.args.self.now held c.args.cache.now c.cache.view_is c.requires.fits).onepass
+
+pub returns-in-Some-clause-cache : goal.returns-in-Some-clause-cache
+returns-in-Some-clause-cache c =
+    let was = c.cache.inside in
+    let held : CacheValue = record { pikevm = was.pikevm; onepass = was.onepass; backtrack = was.backtrack; lazies = was.lazies; memory = was.memory } in
+    onepass-fit c.args.self.now held c.args.cache.now c.cache.view_is c.find_in_one_pass.new.cache c.requires.fits
+    (one-again c.args.self.now.onepass c.in-Some.engine.now c.find_in_one_pass.new.cache c.in-Some.ensures.serves.1 c.find_in_one_pass.ensures.cache)
+
+pub returns-in-Some-clause-memory : goal.returns-in-Some-clause-memory
+returns-in-Some-clause-memory c =
+    let was = c.cache.inside in
+    let held : CacheValue = record { pikevm = was.pikevm; onepass = was.onepass; backtrack = was.backtrack; lazies = was.lazies; memory = was.memory } in
+    onepass-alike c.args.self.now held c.args.cache.now c.cache.view_is c.find_in_one_pass.new.cache

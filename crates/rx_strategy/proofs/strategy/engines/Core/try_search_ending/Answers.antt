@@ -1,6 +1,8 @@
 use Rattle.std.specs.Prelude.{None}
 use Rattle.rx_strategy.proofs.DfaLemmas.{core-searches, in-nfa, less-asked}
 use Rattle.rx_search.specs.Matches.{MatchValue}
+use Rattle.rx_strategy.specs.Cache.{CacheValue}
+use Rattle.rx_strategy.proofs.PartLemmas.{own-lazies, lazies-fit, lazies-alike}
 use Rattle.rx_strategy.proofs.strategy.engines.Core.try_search_ending.Goals as goal
 
 pub returns-clause-answer : goal.returns-clause-answer
@@ -15,3 +17,23 @@ returns-clause-in_range c =
     let core = c.args.self.now in
     in-nfa core.nfa core.kind core.reverse c.get_dfas.result.now c.get_dfas.ensures.serve (λ (m : MatchValue). m.pattern) c.try_search_ending.result
     c.try_search_ending.ensures.in_range
+
+pub try_search_ending-requires-clause-fits : goal.try_search_ending-requires-clause-fits
+try_search_ending-requires-clause-fits c =
+    let was = c.cache.inside in
+    let held : CacheValue = record { pikevm = was.pikevm; onepass = was.onepass; backtrack = was.backtrack; lazies = was.lazies; memory = was.memory } in
+    own-lazies c.args.self.now held c.args.cache.now c.cache.view_is c.get_dfas.result.now c.get_dfas.ensures.value c.requires.fits
+
+pub returns-clause-cache : goal.returns-clause-cache
+returns-clause-cache c =
+    let was = c.cache.inside in
+    let held : CacheValue = record { pikevm = was.pikevm; onepass = was.onepass; backtrack = was.backtrack; lazies = was.lazies; memory = was.memory } in
+    lazies-fit c.args.self.now held c.args.cache.now c.cache.view_is c.get_dfas.result.now c.get_dfas.ensures.value c.try_search_ending.new.lazies c.requires.fits
+    c.try_search_ending.ensures.fits
+
+pub returns-clause-memory : goal.returns-clause-memory
+returns-clause-memory c =
+    let was = c.cache.inside in
+    let held : CacheValue = record { pikevm = was.pikevm; onepass = was.onepass; backtrack = was.backtrack; lazies = was.lazies; memory = was.memory } in
+    lazies-alike c.args.self.now held c.args.cache.now c.cache.view_is c.get_dfas.result.now c.get_dfas.ensures.value c.try_search_ending.new.lazies
+    c.try_search_ending.ensures.same
