@@ -26,6 +26,7 @@ pub mod ChainLemmas
 pub mod FitLemmas
 pub mod ClearingLemmas
 pub mod LazyLemmas
+pub mod StepLemmas
 pub mod BegunLemmas
 pub mod RowsLemmas
 pub mod HeldLemmas

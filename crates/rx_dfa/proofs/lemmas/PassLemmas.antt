@@ -1,9 +1,12 @@
 -- The loop over plain states.
-use Rattle.std.proofs.Common.{◌≡◌, ℕ, suc, ◌<◌, [], sym, ◌∙◌, ap, subst, arith}
-use Rattle.std.specs.Prelude.{false, Some}
+use Rattle.std.proofs.Common.{◌≡◌, ℕ, suc, ◌<◌, [], refl, sym, ◌∙◌, ap, subst, arith}
+use Rattle.std.specs.Prelude.{false, Option, Some}
+use Rattle.rx_nfa.specs.Nfa.{Nfa}
 use Rattle.rx_determinize.specs.Key.{Key, is_dead}
-use Rattle.rx_dfa.specs.Automaton.{Dfa, next_key, IsReadable}
-use Rattle.rx_dfa.specs.Course.{along, ArePlain, IsPassed}
+use Rattle.rx_dfa.specs.Automaton.{Dfa, next_key, IsReadable, StartFails, StepFails}
+use Rattle.rx_dfa.specs.Course.{along, placed, ArePlain, IsPassed}
+use Rattle.rx_dfa.specs.declared.step_error.StepError.{StepError}
+use Rattle.rx_dfa.specs.declared.step_error.StepError.TheVariants.{Quit as QuitsAt, GaveUp as GivesUp, Memory as WantsMemory}
 use Rattle.rx_dfa.proofs.lemmas.CourseLemmas.{plain-none, plain-more}
 
 -- The first n bytes led over plain states, the last of which is this one.
@@ -49,3 +52,17 @@ way-out Old New d byte k n count old new read lt is_byte w held readable = recor
   behind = λ inside.
       (subst (New new) (ap (next_key d (along d byte n k)) is_byte) held, subst (λ (b : ℕ). IsReadable d.nfa (Some b)) is_byte readable);
 }
+
+-- one byte alone, from a state that may not be plain
+pub passed-one : (Old New : ℕ → Key → Type 0) (d : Dfa) (byte : ℕ → ℕ) (k : Key) (n count old new read : ℕ) → n ≡ 0 → 0 < count → read ≡ byte 0
+    → Old old k → is_dead k ≡ false → New new (next_key d k read) → IsReadable d.nfa (Some read) → IsPassed New d byte k n count new
+passed-one Old New d byte k n count old new read none some is held alive next readable =
+    subst (λ m. IsPassed New d byte k m count new) (sym none)
+    (way-out Old New d byte k 0 count old new read some is (way-first Old d byte k 0 old refl held alive) next readable)
+
+-- the error of a step where the search is told its place
+pub placed-fails : (nfa : Nfa) (byte : Option ℕ) (beside place : ℕ) (gives_up wants : Type 0) (e : StepError) → StepFails nfa byte gives_up wants e
+    → StartFails nfa byte beside place gives_up wants (placed beside place e)
+placed-fails nfa byte beside place gives_up wants (QuitsAt quit) h = (refl, h.0, h.1)
+placed-fails nfa byte beside place gives_up wants GivesUp h = (refl, h)
+placed-fails nfa byte beside place gives_up wants WantsMemory h = h

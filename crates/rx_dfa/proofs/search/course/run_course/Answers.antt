@@ -306,3 +306,125 @@ returns-clause-stop g c =
     (subst (IsReadable d.nfa) got (c.in-Ok-last_state.ensures.readable key going.held going.alive))
     (last.2 ∙ ap (λ o. (end_of d key o).matches) got)
     (met ∙ ap (λ p. met_within (is_permitted d.nfa.utf8 v.haystack) last.0.matches p c.bytes.met) end_is)
+
+pub start_forward-requires : goal.start_forward-requires
+start_forward-requires g c = c.requires.fits
+
+pub is_dead-requires : goal.is_dead-requires
+is_dead-requires g c =
+    let v = c.args.input.now in
+    (first_key (g.A.Automaton.dfa c.args.dfa.now) v.anchor (byte_before v.haystack v.start), c.in-Ok.ensures.start)
+
+pub next_state-requires-clause-fits : goal.next_state-requires-clause-fits
+next_state-requires-clause-fits g c = c.bytes.invariant.fits
+
+pub next_state-requires-clause-held : goal.next_state-requires-clause-held
+next_state-requires-clause-held g c = (key_ahead (g.A.Automaton.dfa c.args.dfa.now) c.args.input.now c.bytes.at, c.bytes.invariant.going.held)
+
+pub is_back-requires-clause-fits : goal.is_back-requires-clause-fits
+is_back-requires-clause-fits g c = c.in-Ok-next_state.ensures.fits
+
+pub last_state-requires-clause-fits : goal.last_state-requires-clause-fits
+last_state-requires-clause-fits g c = c.bytes.invariant.fits
+
+pub last_state-requires-clause-held : goal.last_state-requires-clause-held
+last_state-requires-clause-held g c = (key_ahead (g.A.Automaton.dfa c.args.dfa.now) c.args.input.now c.bytes.at, c.bytes.invariant.going.held)
+
+pub returns-in-Err-clause-fits : goal.returns-in-Err-clause-fits
+returns-in-Err-clause-fits g c = c.in-Err.ensures.fits
+
+pub returns-in-Err-clause-sound : goal.returns-in-Err-clause-sound
+returns-in-Err-clause-sound g c = c.is_utf8-utf8.ensures.sound
+
+pub returns-in-Err-clause-stop : goal.returns-in-Err-clause-stop
+returns-in-Err-clause-stop g c = tt
+
+pub returns-then-is_dead-clause-fits : goal.returns-then-is_dead-clause-fits
+returns-then-is_dead-clause-fits g c = c.in-Ok.ensures.fits
+
+pub returns-then-is_dead-clause-err : goal.returns-then-is_dead-clause-err
+returns-then-is_dead-clause-err g c = tt
+
+pub returns-then-is_dead-clause-sound : goal.returns-then-is_dead-clause-sound
+returns-then-is_dead-clause-sound g c = c.is_utf8-utf8.ensures.sound
+
+pub returns-in-Err-next_state-clause-fits : goal.returns-in-Err-next_state-clause-fits
+returns-in-Err-next_state-clause-fits g c = c.in-Err-next_state.ensures.fits
+
+pub returns-in-Err-next_state-clause-sound : goal.returns-in-Err-next_state-clause-sound
+returns-in-Err-next_state-clause-sound g c = c.is_utf8-utf8.ensures.sound
+
+pub returns-in-Err-next_state-clause-stop : goal.returns-in-Err-next_state-clause-stop
+returns-in-Err-next_state-clause-stop g c = tt
+
+pub returns-then-is_back-clause-fits : goal.returns-then-is_back-clause-fits
+returns-then-is_back-clause-fits g c = c.in-Ok-next_state.ensures.fits
+
+pub returns-then-is_back-clause-err : goal.returns-then-is_back-clause-err
+returns-then-is_back-clause-err g c = tt
+
+pub returns-then-is_back-clause-sound : goal.returns-then-is_back-clause-sound
+returns-then-is_back-clause-sound g c = c.is_utf8-utf8.ensures.sound
+
+pub returns-then-is_dead-2-clause-fits : goal.returns-then-is_dead-2-clause-fits
+returns-then-is_dead-2-clause-fits g c = c.in-Ok-next_state.ensures.fits
+
+pub returns-then-is_dead-2-clause-err : goal.returns-then-is_dead-2-clause-err
+returns-then-is_dead-2-clause-err g c = tt
+
+pub returns-then-is_dead-2-clause-sound : goal.returns-then-is_dead-2-clause-sound
+returns-then-is_dead-2-clause-sound g c = c.is_utf8-utf8.ensures.sound
+
+pub returns-then-is_enough-clause-fits : goal.returns-then-is_enough-clause-fits
+returns-then-is_enough-clause-fits g c = c.in-Ok-next_state.ensures.fits
+
+pub returns-then-is_enough-clause-err : goal.returns-then-is_enough-clause-err
+returns-then-is_enough-clause-err g c = tt
+
+pub returns-then-is_enough-clause-sound : goal.returns-then-is_enough-clause-sound
+returns-then-is_enough-clause-sound g c = c.is_utf8-utf8.ensures.sound
+
+pub returns-in-Err-last_state-clause-fits : goal.returns-in-Err-last_state-clause-fits
+returns-in-Err-last_state-clause-fits g c = c.in-Err-last_state.ensures.fits
+
+pub returns-in-Err-last_state-clause-sound : goal.returns-in-Err-last_state-clause-sound
+returns-in-Err-last_state-clause-sound g c = c.is_utf8-utf8.ensures.sound
+
+pub returns-in-Err-last_state-clause-stop : goal.returns-in-Err-last_state-clause-stop
+returns-in-Err-last_state-clause-stop g c = tt
+
+pub returns-clause-fits : goal.returns-clause-fits
+returns-clause-fits g c = c.in-Ok-last_state.ensures.fits
+
+pub returns-clause-err : goal.returns-clause-err
+returns-clause-err g c = tt
+
+pub returns-clause-sound : goal.returns-clause-sound
+returns-clause-sound g c = c.is_utf8-utf8.ensures.sound
+
+pub bytes-smaller : goal.bytes-smaller
+bytes-smaller g c = omega (arith, c.bytes-test.true, c.end-end.ensures.value)
+
+pub bytes-smaller-then-not-is_special : goal.bytes-smaller-then-not-is_special
+bytes-smaller-then-not-is_special g c = omega (arith, c.bytes-test.true, c.end-end.ensures.value)
+
+pub bounds-haystack-at : goal.bounds-haystack-at
+bounds-haystack-at g c =
+    let whole : length c.haystack-haystack.result.now ≡ length c.args.input.now.haystack = ap length c.haystack-haystack.ensures.value in
+    omega (arith, whole, c.haystack-haystack.ensures.spanned.end, c.end-end.ensures.value, c.bytes-test.true)
+
+pub is_permitted_at-may-requires : goal.is_permitted_at-may-requires
+is_permitted_at-may-requires g c =
+    let whole : length c.haystack-haystack.result.now ≡ length c.args.input.now.haystack = ap length c.haystack-haystack.ensures.value in
+    omega (arith, whole, c.haystack-haystack.ensures.spanned.end, c.end-end.ensures.value, c.bytes-test.true)
+
+pub is_permitted_at-may_end-requires : goal.is_permitted_at-may_end-requires
+is_permitted_at-may_end-requires g c =
+    let whole : length c.haystack-haystack.result.now ≡ length c.args.input.now.haystack = ap length c.haystack-haystack.ensures.value in
+    omega (arith, whole, c.haystack-haystack.ensures.spanned.end, c.end-end.ensures.value)
+
+pub overflow_add-at : goal.overflow_add-at
+overflow_add-at g c = omega (arith, c.bytes-test.true, c.end-end.type_inv)
+
+pub overflow_add-at-in-bytes : goal.overflow_add-at-in-bytes
+overflow_add-at-in-bytes g c = omega (arith, c.bytes-test.true, c.end-end.type_inv)

@@ -231,3 +231,78 @@ returns-in-Some-clause-in_range g c =
     let from = c.starts.rest.start in
     let m : IsMetForwards d (from_place from v) c.in-Ok.met = subst (λ (w : InputValue). IsMetForwards d w c.in-Ok.met) i.rest c.in-Ok.ensures.met in
     forwards-below d c.in-Ok.ensures.sound (from_place from v) c.in-Ok.met m c.in-Some.best (best_is ∙ c.in-Some.is)
+
+pub returns-in-Err-clause-answer : goal.returns-in-Err-clause-answer
+returns-in-Err-clause-answer g c = λ r p leftmost. tt
+
+pub returns-in-Err-clause-last : goal.returns-in-Err-clause-last
+returns-in-Err-clause-last g c = λ every. tt
+
+pub returns-in-Err-clause-within : goal.returns-in-Err-clause-within
+returns-in-Err-clause-within g c = tt
+
+pub returns-in-Err-clause-in_range : goal.returns-in-Err-clause-in_range
+returns-in-Err-clause-in_range g c = tt
+
+pub returns-in-Err-clause-fits : goal.returns-in-Err-clause-fits
+returns-in-Err-clause-fits g c = c.in-Err.ensures.fits
+
+pub returns-in-Some-clause-err : goal.returns-in-Some-clause-err
+returns-in-Some-clause-err g c = tt
+
+pub returns-in-Some-clause-fits : goal.returns-in-Some-clause-fits
+returns-in-Some-clause-fits g c = c.in-Ok.ensures.fits
+
+pub returns-then-is_anchored-clause-within : goal.returns-then-is_anchored-clause-within
+returns-then-is_anchored-clause-within g c = tt
+
+pub returns-then-is_anchored-clause-in_range : goal.returns-then-is_anchored-clause-in_range
+returns-then-is_anchored-clause-in_range g c = tt
+
+pub returns-then-is_anchored-clause-err : goal.returns-then-is_anchored-clause-err
+returns-then-is_anchored-clause-err g c = tt
+
+pub returns-then-is_anchored-clause-fits : goal.returns-then-is_anchored-clause-fits
+returns-then-is_anchored-clause-fits g c = c.in-Ok.ensures.fits
+
+pub returns-then-tells_every-clause-within : goal.returns-then-tells_every-clause-within
+returns-then-tells_every-clause-within g c = tt
+
+pub returns-then-tells_every-clause-in_range : goal.returns-then-tells_every-clause-in_range
+returns-then-tells_every-clause-in_range g c = tt
+
+pub returns-then-tells_every-clause-err : goal.returns-then-tells_every-clause-err
+returns-then-tells_every-clause-err g c = tt
+
+pub returns-then-tells_every-clause-fits : goal.returns-then-tells_every-clause-fits
+returns-then-tells_every-clause-fits g c = c.in-Ok.ensures.fits
+
+pub returns-in_default-refused-clause-within : goal.returns-in_default-refused-clause-within
+returns-in_default-refused-clause-within g c = tt
+
+pub returns-in_default-refused-clause-in_range : goal.returns-in_default-refused-clause-in_range
+returns-in_default-refused-clause-in_range g c = tt
+
+pub returns-in_default-refused-clause-err : goal.returns-in_default-refused-clause-err
+returns-in_default-refused-clause-err g c = tt
+
+pub returns-in_default-refused-clause-fits : goal.returns-in_default-refused-clause-fits
+returns-in_default-refused-clause-fits g c = c.in-Ok.ensures.fits
+
+pub returns-clause-within : goal.returns-clause-within
+returns-clause-within g c = tt
+
+pub returns-clause-in_range : goal.returns-clause-in_range
+returns-clause-in_range g c = tt
+
+pub returns-clause-err : goal.returns-clause-err
+returns-clause-err g c = tt
+
+pub returns-clause-fits : goal.returns-clause-fits
+returns-clause-fits g c = c.starts.invariant.fits
+
+pub run_forward-requires-clause-fits : goal.run_forward-requires-clause-fits
+run_forward-requires-clause-fits g c = c.starts.invariant.fits
+
+pub run_forward-requires-clause-forward : goal.run_forward-requires-clause-forward
+run_forward-requires-clause-forward g c = c.requires.forward

@@ -366,3 +366,8 @@ is_permitted_at-may_end-requires g c =
 
 pub bytes-smaller : goal.bytes-smaller
 bytes-smaller g c = omega (arith, c.bytes-test.true, c.end-end.ensures.value, c.in-Ok-ahead.ensures.between.0)
+
+pub overflow_add-at : goal.overflow_add-at
+overflow_add-at g c =
+    let whole : length c.haystack-haystack.result.now ≡ length c.args.input.now.haystack = ap length c.haystack-haystack.ensures.value in
+    omega (arith, whole, c.haystack-haystack.ensures.spanned.end, c.end-end.ensures.value, c.in-Ok-ahead.ensures.between.1, c.haystack-haystack.type_inv)

@@ -490,3 +490,9 @@ returns-in-Err-next_state-clause-each g c = tt
 
 pub returns-in-Err-last_state-clause-each : goal.returns-in-Err-last_state-clause-each
 returns-in-Err-last_state-clause-each g c = tt
+
+pub overflow_add-at : goal.overflow_add-at
+overflow_add-at g c = omega (arith, c.bytes-test.true, c.end-end.type_inv)
+
+pub overflow_add-at-in-bytes : goal.overflow_add-at-in-bytes
+overflow_add-at-in-bytes g c = omega (arith, c.bytes-test.true, c.end-end.type_inv)

@@ -4,8 +4,9 @@ use Rattle.rx_search.specs.Input.{InputValue, from_place}
 use Rattle.rx_determinize.specs.Permitted.{Progress}
 use Rattle.rx_dfa.specs.Candidates.{StandsBy, IsBack, IsStopped, HasNoneBefore}
 use Rattle.rx_dfa.specs.Course.{IsMetForwards}
+use Rattle.rx_dfa.specs.Search.{SearchFails}
 use Rattle.rx_dfa.proofs.lemmas.CandidateLemmas.{stands-start, stands-candidate, stands-back, stands-again, none-left, by-past, by-found, by-unrefused}
-use Rattle.rx_dfa.proofs.lemmas.ForwardLemmas.{forwards-between}
+use Rattle.rx_dfa.proofs.lemmas.ForwardLemmas.{forwards-between, fails-later}
 use Rattle.rx_dfa.proofs.lemmas.PatternLemmas.{forwards-below}
 use Rattle.rx_dfa.proofs.search.prefiltered.find_end_by.Goals as goal
 
@@ -364,3 +365,18 @@ run_course-requires-clause-in_order g c =
 pub run_course-requires-clause-free : goal.run_course-requires-clause-free
 run_course-requires-clause-free g c =
     ap (λ (w : InputValue). is_anchored w.anchor) (c.set_start.ensures ∙ ap (from_place c.in-Some.candidate) c.starts.invariant.rest) ∙ c.requires.free
+
+pub returns-in-Err-clause-err : goal.returns-in-Err-clause-err
+returns-in-Err-clause-err g c =
+    let d = g.A.Automaton.dfa c.args.dfa.now in
+    let v = c.args.input.now in
+    let i = c.starts.invariant in
+    let candidate = c.in-Some.candidate in
+    let here : c.set_start.new.self ≡ from_place candidate v = c.set_start.ensures ∙ ap (from_place candidate) i.rest in
+    let gives_up = g.A.Automaton.gives_up c.args.dfa.now c.run_course.new.cache in
+    let wants = g.A.Automaton.wants c.args.dfa.now in
+    fails-later d.nfa v candidate gives_up wants c.in-Err.error (omega (arith, i.stands.low, c.in-Some.ensures.0))
+    (subst (λ (w : InputValue). SearchFails d.nfa w gives_up wants c.in-Err.error) here c.in-Err.ensures.err)
+
+pub set_start-requires : goal.set_start-requires
+set_start-requires g c = omega (arith, c.in-Some.ensures.1)

@@ -80,3 +80,45 @@ returns-clause-passed g c = λ key held alive.
     way-end (g.A.Automaton.holds c.args.dfa.now c.plain.cache) (g.A.Automaton.dfa c.args.dfa.now)
     (λ i. slice_index c.args.haystack.now (c.args.from - suc i)) key (c.args.from - c.plain.at) (c.args.from - c.args.start) c.plain.here (omega arith)
     (c.plain.invariant.way key held alive)
+
+pub bounds-haystack-before : goal.bounds-haystack-before
+bounds-haystack-before g c = omega (arith, c.requires.within, c.plain.invariant.high, c.plain-test.true)
+
+pub next_state-requires-clause-fits : goal.next_state-requires-clause-fits
+next_state-requires-clause-fits g c = c.plain.invariant.fits
+
+pub next_state-requires-clause-held : goal.next_state-requires-clause-held
+next_state-requires-clause-held g c = c.plain.invariant.some
+
+pub returns-in-Err-clause-passed : goal.returns-in-Err-clause-passed
+returns-in-Err-clause-passed g c = λ key held alive. tt
+
+pub returns-in-Err-clause-between : goal.returns-in-Err-clause-between
+returns-in-Err-clause-between g c = tt
+
+pub returns-in-Err-clause-fits : goal.returns-in-Err-clause-fits
+returns-in-Err-clause-fits g c = c.in-Err.ensures.fits
+
+pub returns-then-is_special-clause-between : goal.returns-then-is_special-clause-between
+returns-then-is_special-clause-between g c = (c.plain.invariant.low, c.plain.invariant.high)
+
+pub returns-then-is_special-clause-err : goal.returns-then-is_special-clause-err
+returns-then-is_special-clause-err g c = λ v hay low high. tt
+
+pub returns-then-is_special-clause-fits : goal.returns-then-is_special-clause-fits
+returns-then-is_special-clause-fits g c = c.in-Ok.ensures.fits
+
+pub plain-smaller : goal.plain-smaller
+plain-smaller g c = omega (arith, c.plain-test.true)
+
+pub returns-clause-between : goal.returns-clause-between
+returns-clause-between g c = (c.plain.invariant.low, c.plain.invariant.high)
+
+pub returns-clause-err : goal.returns-clause-err
+returns-clause-err g c = λ v hay low high. tt
+
+pub returns-clause-fits : goal.returns-clause-fits
+returns-clause-fits g c = c.plain.invariant.fits
+
+pub overflow_sub-before : goal.overflow_sub-before
+overflow_sub-before g c = omega (arith, c.plain-test.true)

@@ -295,3 +295,99 @@ returns-clause-met g c =
     (subst (IsReadable d.nfa) got (c.in-Ok-last_state.ensures.readable key going.going.held going.going.alive))
     (last.2 ∙ ap (λ o. (end_of d key o).matches) got)
     (met ∙ ap (λ p. met_within (is_permitted d.nfa.utf8 v.haystack) last.0.matches p c.bytes.met) start_is))
+
+pub start_reverse-requires : goal.start_reverse-requires
+start_reverse-requires g c = c.requires.fits
+
+pub is_dead-requires : goal.is_dead-requires
+is_dead-requires g c =
+    let v = c.args.input.now in
+    (first_key (g.A.Automaton.dfa c.args.dfa.now) v.anchor (byte_after v.haystack v.end), c.in-Ok.ensures.start)
+
+pub back-requires-clause-fits : goal.back-requires-clause-fits
+back-requires-clause-fits g c = c.bytes.invariant.fits
+
+pub back-requires-clause-some : goal.back-requires-clause-some
+back-requires-clause-some g c = c.bytes-test.true
+
+pub last_state-requires-clause-fits : goal.last_state-requires-clause-fits
+last_state-requires-clause-fits g c = c.bytes.invariant.fits
+
+pub last_state-requires-clause-held : goal.last_state-requires-clause-held
+last_state-requires-clause-held g c = (key_behind (g.A.Automaton.dfa c.args.dfa.now) c.args.input.now c.bytes.at, c.bytes.invariant.going.going.held)
+
+pub returns-in-Err-clause-fits : goal.returns-in-Err-clause-fits
+returns-in-Err-clause-fits g c = c.in-Err.ensures.fits
+
+pub returns-in-Err-back-clause-fits : goal.returns-in-Err-back-clause-fits
+returns-in-Err-back-clause-fits g c = c.in-Err-back.ensures.fits
+
+pub returns-in-Err-last_state-clause-fits : goal.returns-in-Err-last_state-clause-fits
+returns-in-Err-last_state-clause-fits g c = c.in-Err-last_state.ensures.fits
+
+pub returns-clause-fits : goal.returns-clause-fits
+returns-clause-fits g c = c.in-Ok-last_state.ensures.fits
+
+pub returns-then-is_dead-clause-fits : goal.returns-then-is_dead-clause-fits
+returns-then-is_dead-clause-fits g c = c.in-Ok.ensures.fits
+
+pub returns-then-is_dead-2-clause-fits : goal.returns-then-is_dead-2-clause-fits
+returns-then-is_dead-2-clause-fits g c = c.in-Ok-back.ensures.fits
+
+pub returns-then-is_enough-clause-fits : goal.returns-then-is_enough-clause-fits
+returns-then-is_enough-clause-fits g c = c.in-Ok-back.ensures.fits
+
+pub returns-clause-err : goal.returns-clause-err
+returns-clause-err g c = tt
+
+pub returns-then-is_dead-clause-err : goal.returns-then-is_dead-clause-err
+returns-then-is_dead-clause-err g c = tt
+
+pub returns-then-is_dead-2-clause-err : goal.returns-then-is_dead-2-clause-err
+returns-then-is_dead-2-clause-err g c = tt
+
+pub returns-then-is_enough-clause-err : goal.returns-then-is_enough-clause-err
+returns-then-is_enough-clause-err g c = tt
+
+pub returns-clause-sound : goal.returns-clause-sound
+returns-clause-sound g c = c.is_utf8-utf8.ensures.sound
+
+pub returns-in-Err-clause-sound : goal.returns-in-Err-clause-sound
+returns-in-Err-clause-sound g c = c.is_utf8-utf8.ensures.sound
+
+pub returns-in-Err-back-clause-sound : goal.returns-in-Err-back-clause-sound
+returns-in-Err-back-clause-sound g c = c.is_utf8-utf8.ensures.sound
+
+pub returns-in-Err-last_state-clause-sound : goal.returns-in-Err-last_state-clause-sound
+returns-in-Err-last_state-clause-sound g c = c.is_utf8-utf8.ensures.sound
+
+pub returns-then-is_dead-clause-sound : goal.returns-then-is_dead-clause-sound
+returns-then-is_dead-clause-sound g c = c.is_utf8-utf8.ensures.sound
+
+pub returns-then-is_dead-2-clause-sound : goal.returns-then-is_dead-2-clause-sound
+returns-then-is_dead-2-clause-sound g c = c.is_utf8-utf8.ensures.sound
+
+pub returns-then-is_enough-clause-sound : goal.returns-then-is_enough-clause-sound
+returns-then-is_enough-clause-sound g c = c.is_utf8-utf8.ensures.sound
+
+pub returns-in-Err-clause-met : goal.returns-in-Err-clause-met
+returns-in-Err-clause-met g c = tt
+
+pub returns-in-Err-back-clause-met : goal.returns-in-Err-back-clause-met
+returns-in-Err-back-clause-met g c = tt
+
+pub returns-in-Err-last_state-clause-met : goal.returns-in-Err-last_state-clause-met
+returns-in-Err-last_state-clause-met g c = tt
+
+pub is_permitted_at-may-requires : goal.is_permitted_at-may-requires
+is_permitted_at-may-requires g c =
+    let whole : length c.haystack-haystack.result.now ≡ length c.args.input.now.haystack = ap length c.haystack-haystack.ensures.value in
+    omega (arith, whole, c.haystack-haystack.ensures.spanned.end, c.bytes.invariant.high, c.in-Ok-back.ensures.between.1)
+
+pub is_permitted_at-may_start-requires : goal.is_permitted_at-may_start-requires
+is_permitted_at-may_start-requires g c =
+    let whole : length c.haystack-haystack.result.now ≡ length c.args.input.now.haystack = ap length c.haystack-haystack.ensures.value in
+    omega (arith, whole, c.haystack-haystack.ensures.spanned.end, c.start-start.ensures.value, c.requires.in_order)
+
+pub bytes-smaller : goal.bytes-smaller
+bytes-smaller g c = omega (arith, c.bytes-test.true, c.start-start.ensures.value, c.in-Ok-back.ensures.between.1)

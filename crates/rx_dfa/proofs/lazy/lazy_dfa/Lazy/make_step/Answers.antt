@@ -187,3 +187,75 @@ returns-in-Err-add-clause-grown c key old =
     (grown-same l (key_of new.from ∷ []) (key_of new.into) new.rows.since (Some c.args.taken) new.rows new.rows made last refl refl refl
     c.in-Err-add.ensures.err c.add.ensures.counts
     (made-grown l (key_of new.from) (key_of new.into) c.args.taken new.rows made c.in-Ok.ensures.made))
+
+pub returns-then-is_err-clause-next : goal.returns-then-is_err-clause-next
+returns-then-is_err-clause-next c key old = tt
+
+pub returns-then-is_err-clause-err : goal.returns-then-is_err-clause-err
+returns-then-is_err-clause-err c = tt
+
+pub returns-then-is_err-clause-full : goal.returns-then-is_err-clause-full
+returns-then-is_err-clause-full c key old = tt
+
+pub returns-then-is_err-clause-stays : goal.returns-then-is_err-clause-stays
+returns-then-is_err-clause-stays c key old = tt
+
+pub returns-then-is_err-clause-counted : goal.returns-then-is_err-clause-counted
+returns-then-is_err-clause-counted c = tt
+
+pub returns-then-is_err-clause-fits : goal.returns-then-is_err-clause-fits
+returns-then-is_err-clause-fits c = c.make_key.ensures.fits
+
+pub set-requires-clause-rows : goal.set-requires-clause-rows
+set-requires-clause-rows c = c.make_key.ensures.fits.rows
+
+pub set-requires-clause-column : goal.set-requires-clause-column
+set-requires-clause-column c = c.column-column.ensures.within
+
+pub set-requires-clause-row : goal.set-requires-clause-row
+set-requires-clause-row c = subst (λ (r : Rows). c.args.row < length r.keys) (sym c.make_key.ensures.rows) c.requires.row
+
+pub returns-in-Some-clause-err : goal.returns-in-Some-clause-err
+returns-in-Some-clause-err c = tt
+
+pub returns-in-Some-clause-full : goal.returns-in-Some-clause-full
+returns-in-Some-clause-full c key old = tt
+
+pub returns-in-Some-clause-counted : goal.returns-in-Some-clause-counted
+returns-in-Some-clause-counted c = tt
+
+pub returns-in-Some-clause-fits : goal.returns-in-Some-clause-fits
+returns-in-Some-clause-fits c = record { rows = c.set.ensures.rows; room = c.make_key.ensures.fits.room }
+
+pub make_room-requires-clause-rows : goal.make_room-requires-clause-rows
+make_room-requires-clause-rows c = c.make_key.ensures.fits.rows
+
+pub returns-in-Err-clause-next : goal.returns-in-Err-clause-next
+returns-in-Err-clause-next c key old = tt
+
+pub returns-in-Err-clause-stays : goal.returns-in-Err-clause-stays
+returns-in-Err-clause-stays c key old = tt
+
+pub returns-in-Ok-add-clause-err : goal.returns-in-Ok-add-clause-err
+returns-in-Ok-add-clause-err c = tt
+
+pub returns-in-Ok-add-clause-full : goal.returns-in-Ok-add-clause-full
+returns-in-Ok-add-clause-full c key old = tt
+
+pub returns-in-Ok-add-clause-counted : goal.returns-in-Ok-add-clause-counted
+returns-in-Ok-add-clause-counted c = tt
+
+pub returns-in-Err-add-clause-next : goal.returns-in-Err-add-clause-next
+returns-in-Err-add-clause-next c key old = tt
+
+pub returns-in-Err-add-clause-err : goal.returns-in-Err-add-clause-err
+returns-in-Err-add-clause-err c = tt
+
+pub returns-in-Err-add-clause-full : goal.returns-in-Err-add-clause-full
+returns-in-Err-add-clause-full c key old = tt
+
+pub returns-in-Err-add-clause-stays : goal.returns-in-Err-add-clause-stays
+returns-in-Err-add-clause-stays c key old = tt
+
+pub returns-in-Err-add-clause-counted : goal.returns-in-Err-add-clause-counted
+returns-in-Err-add-clause-counted c = tt

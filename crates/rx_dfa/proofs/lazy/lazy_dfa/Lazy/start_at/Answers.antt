@@ -119,3 +119,6 @@ returns-in-Err-clause-fits c = c.start.ensures.fits
 pub returns-in_default-start_of-clause-grown : goal.returns-in_default-start_of-clause-grown
 returns-in_default-start_of-clause-grown c =
     grown-kept c.args.self.now [] (first_key c.args.self.now.dfa (anchor_of c.args.mode) c.args.beside) None _ c.args.cache.now.rows _ refl refl
+
+pub start-requires-clause-start : goal.start-requires-clause-start
+start-requires-clause-start c = c.in-Some-start_of.ensures.within

@@ -3,10 +3,12 @@ use Rattle.std.proofs.lemmas.Bool.Decides.{Decides-eqb}
 use Rattle.std.proofs.lemmas.Option.{slice_get_within, slice_get_read}
 use Rattle.std.proofs.lemmas.Result.{on_ok_weaker}
 use Rattle.std.specs.Prelude.{Some, slice_get}
+use Rattle.rx_dfa.specs.Automaton.{IsReadable}
 use Rattle.rx_dfa.specs.Lazy.{dead_state, row_of, key_after}
 use Rattle.rx_dfa.proofs.lemmas.ClearingLemmas.{grown-kept}
 use Rattle.rx_dfa.proofs.lemmas.HeldLemmas.{dead-after, held-dead, held-row, alive-apart, asked-known, cell-of, stands-still}
 use Rattle.rx_dfa.proofs.lemmas.RowsLemmas.{on-ok}
+use Rattle.rx_dfa.proofs.lemmas.StepLemmas.{dead-alive, step-room}
 use Rattle.rx_dfa.proofs.lazy.lazy_dfa.Lazy.step.Goals as goal
 
 pub returns-then-is_dead_state-clause-next : goal.returns-then-is_dead_state-clause-next
@@ -128,3 +130,71 @@ returns-clause-full c key h =
     let held = held-row l.stride r.keys state key h apart in
     let row : c.place_of-place.result / c.stride.result ≡ row_of l.stride state = λ j. c.place_of-place.ensures j / c.stride.ensures.value j in
     c.make_step.ensures.full key (ap (slice_get r.keys) row ∙ held.0)
+
+pub returns-then-is_dead_state-clause-readable : goal.returns-then-is_dead_state-clause-readable
+returns-then-is_dead_state-clause-readable c key h alive =
+    let e : c.args.state ≡ dead_state = (Decides-eqb c.args.state dead_state).0 (sym c.is_dead_state.ensures ∙ c.if-is_dead_state.true) in
+    dead-alive c.args.self.now.stride c.args.cache.now.rows.keys c.args.state key h e alive (IsReadable c.args.self.now.dfa.nfa c.args.byte)
+
+pub returns-then-is_dead_state-clause-err : goal.returns-then-is_dead_state-clause-err
+returns-then-is_dead_state-clause-err c = tt
+
+pub returns-then-is_dead_state-clause-full : goal.returns-then-is_dead_state-clause-full
+returns-then-is_dead_state-clause-full c key h = tt
+
+pub returns-then-is_dead_state-clause-counted : goal.returns-then-is_dead_state-clause-counted
+returns-then-is_dead_state-clause-counted c = tt
+
+pub returns-then-is_dead_state-clause-fits : goal.returns-then-is_dead_state-clause-fits
+returns-then-is_dead_state-clause-fits c = c.requires.fits
+
+pub returns-then-is_known-clause-err : goal.returns-then-is_known-clause-err
+returns-then-is_known-clause-err c = tt
+
+pub returns-then-is_known-clause-full : goal.returns-then-is_known-clause-full
+returns-then-is_known-clause-full c key h = tt
+
+pub returns-then-is_known-clause-counted : goal.returns-then-is_known-clause-counted
+returns-then-is_known-clause-counted c = tt
+
+pub returns-then-is_known-clause-fits : goal.returns-then-is_known-clause-fits
+returns-then-is_known-clause-fits c = c.requires.fits
+
+pub returns-in-Some-clause-next : goal.returns-in-Some-clause-next
+returns-in-Some-clause-next c key h = tt
+
+pub returns-in-Some-clause-readable : goal.returns-in-Some-clause-readable
+returns-in-Some-clause-readable c key h alive = tt
+
+pub returns-in-Some-clause-err : goal.returns-in-Some-clause-err
+returns-in-Some-clause-err c = c.in-Some.ensures.some
+
+pub returns-in-Some-clause-full : goal.returns-in-Some-clause-full
+returns-in-Some-clause-full c key h = tt
+
+pub returns-in-Some-clause-stays : goal.returns-in-Some-clause-stays
+returns-in-Some-clause-stays c key h = tt
+
+pub returns-in-Some-clause-counted : goal.returns-in-Some-clause-counted
+returns-in-Some-clause-counted c = tt
+
+pub returns-in-Some-clause-fits : goal.returns-in-Some-clause-fits
+returns-in-Some-clause-fits c = c.requires.fits
+
+pub make_step-requires-clause-fits : goal.make_step-requires-clause-fits
+make_step-requires-clause-fits c = c.requires.fits
+
+pub make_step-requires-clause-small : goal.make_step-requires-clause-small
+make_step-requires-clause-small c = c.requires.small
+
+pub make_step-requires-clause-readable : goal.make_step-requires-clause-readable
+make_step-requires-clause-readable c = c.in_default.ensures.none
+
+pub returns-clause-err : goal.returns-clause-err
+returns-clause-err c = step-room c.args.self.now c.make_step.new.cache.rows c.args.byte c.make_step.result c.make_step.ensures.err
+
+pub returns-clause-counted : goal.returns-clause-counted
+returns-clause-counted c = c.make_step.ensures.counted
+
+pub returns-clause-fits : goal.returns-clause-fits
+returns-clause-fits c = c.make_step.ensures.fits
