@@ -4,4 +4,7 @@ pub mod AttemptLemmas
 pub mod ChosenLemmas
 pub mod MadeLemmas
 pub mod CacheLemmas
+pub mod SameLemmas
+pub mod ArmLemmas
+pub mod RoomLemmas
 pub mod ThreadLemmas

@@ -318,5 +318,13 @@ fn inner_search(alloc: Global, exprs: &[Hir]) -> Result<Option<InnerPrefilter>, 
 fn search_of(inner: InnerPrefilter) -> Prefilter
     ensures { result ≡ inner.pre }
 {
-    inner.pre
+    let InnerPrefilter {
+        prefix,
+        pre,
+        literals,
+    } = inner;
+    // By calls (DECISIONS: large values are let go by name).
+    drop(prefix);
+    drop(literals);
+    pre
 }

@@ -22,3 +22,36 @@ returns-in-Err-clause-answer c =
     let v = c.args.input.now in
     fewer-answers (λ r. HasTried s v c.args.tried r) (λ r. IsFor s r) (prefilter_in s) v (tried-core s v c.args.tried) (kind_in s) half_match_value
     c.search_half_nofail.result c.search_half_nofail.ensures.answer
+
+pub returns-in-Err-Dense-clause-within : goal.returns-in-Err-Dense-clause-within
+returns-in-Err-Dense-clause-within c = c.search_half.ensures.within
+
+pub returns-in-Err-Dense-clause-in_range : goal.returns-in-Err-Dense-clause-in_range
+returns-in-Err-Dense-clause-in_range c = c.search_half.ensures.in_range
+
+pub returns-in-Err-Dense-clause-cache : goal.returns-in-Err-Dense-clause-cache
+returns-in-Err-Dense-clause-cache c = c.search_half.ensures.cache
+
+pub returns-in-Err-Dense-clause-memory : goal.returns-in-Err-Dense-clause-memory
+returns-in-Err-Dense-clause-memory c = c.search_half.ensures.memory
+
+pub returns-in-Err-Dense-clause-sure : goal.returns-in-Err-Dense-clause-sure
+returns-in-Err-Dense-clause-sure c = c.search_half.ensures.sure
+
+pub returns-in-Err-clause-within : goal.returns-in-Err-clause-within
+returns-in-Err-clause-within c = c.search_half_nofail.ensures.within
+
+pub returns-in-Err-clause-in_range : goal.returns-in-Err-clause-in_range
+returns-in-Err-clause-in_range c = c.search_half_nofail.ensures.in_range
+
+pub returns-in-Err-clause-cache : goal.returns-in-Err-clause-cache
+returns-in-Err-clause-cache c = c.search_half_nofail.ensures.cache
+
+pub returns-in-Err-clause-memory : goal.returns-in-Err-clause-memory
+returns-in-Err-clause-memory c = c.search_half_nofail.ensures.memory
+
+pub search_half-requires : goal.search_half-requires
+search_half-requires c = c.requires.fits
+
+pub returns-in-Ok-clause-cache : goal.returns-in-Ok-clause-cache
+returns-in-Ok-clause-cache c = c.requires.fits

@@ -21,3 +21,24 @@ returns-in-Err-clause-value c =
     let v = c.args.input.now in
     fewer-whether (λ r. HasTriedWhether s v c.args.tried r) (λ r. IsFor s r) (prefilter_in s) v (whether-core s v c.args.tried) c.is_match_nofail.result
     c.is_match_nofail.ensures.value
+
+pub returns-in-Err-Dense-clause-cache : goal.returns-in-Err-Dense-clause-cache
+returns-in-Err-Dense-clause-cache c = c.is_match.ensures.cache
+
+pub returns-in-Err-Dense-clause-memory : goal.returns-in-Err-Dense-clause-memory
+returns-in-Err-Dense-clause-memory c = c.is_match.ensures.memory
+
+pub returns-in-Err-Dense-clause-sure : goal.returns-in-Err-Dense-clause-sure
+returns-in-Err-Dense-clause-sure c = c.is_match.ensures.sure
+
+pub returns-in-Err-clause-cache : goal.returns-in-Err-clause-cache
+returns-in-Err-clause-cache c = c.is_match_nofail.ensures.cache
+
+pub returns-in-Err-clause-memory : goal.returns-in-Err-clause-memory
+returns-in-Err-clause-memory c = c.is_match_nofail.ensures.memory
+
+pub is_match-requires : goal.is_match-requires
+is_match-requires c = c.requires.fits
+
+pub returns-in-Ok-clause-cache : goal.returns-in-Ok-clause-cache
+returns-in-Ok-clause-cache c = c.requires.fits

@@ -11,6 +11,7 @@ use Rattle.rx_strategy.specs.Strategy.{IsFor, kind_in, prefilter_in}
 use Rattle.rx_strategy.specs.declared.strategy.Strategy.{Strategy}
 use Rattle.rx_strategies.specs.Attempts.{SuffixValue, IsSuffixFor, HasTriedWhether}
 use Rattle.rx_strategies.proofs.AttemptLemmas.{ok-whether}
+use Rattle.rx_strategies.proofs.SameLemmas.{asked-fits, same-fits, same-alike, same-twice, same-sure}
 use Rattle.rx_strategies.proofs.suffix.ReverseSuffix.is_match.Goals as goal
 
 pub returns-then-is_anchored-clause-value : goal.returns-then-is_anchored-clause-value
@@ -40,3 +41,28 @@ returns-clause-value c =
     c.whether_after.result
     (subst (λ (t : Strategy). IfOk c.whether_after.result (TellsWhether (λ r. HasTriedWhether t v tried r) (prefilter_in t) v))
     (ap (λ (x : SuffixValue). x.core) c.self.view_is) c.whether_after.ensures.value)
+
+pub is_match-requires : goal.is_match-requires
+is_match-requires c = asked-fits _ _ (ap (λ (x : SuffixValue). x.core) c.self.view_is) _ c.requires
+
+pub returns-then-is_anchored-clause-cache : goal.returns-then-is_anchored-clause-cache
+returns-then-is_anchored-clause-cache c = same-fits _ _ (ap (λ (x : SuffixValue). x.core) c.self.view_is) _ c.is_match.ensures.cache
+
+pub returns-clause-cache : goal.returns-clause-cache
+returns-clause-cache c = same-fits _ _ (ap (λ (x : SuffixValue). x.core) c.self.view_is) _ c.whether_after.ensures.cache
+
+pub returns-then-is_anchored-clause-memory : goal.returns-then-is_anchored-clause-memory
+returns-then-is_anchored-clause-memory c = same-alike _ _ (ap (λ (x : SuffixValue). x.core) c.self.view_is) _ _ c.is_match.ensures.memory
+
+pub returns-clause-memory : goal.returns-clause-memory
+returns-clause-memory c =
+    same-twice _ _ (ap (λ (x : SuffixValue). x.core) c.self.view_is) _ _ _ c.attempt-tried.ensures.memory c.whether_after.ensures.memory
+
+pub returns-then-is_anchored-clause-sure : goal.returns-then-is_anchored-clause-sure
+returns-then-is_anchored-clause-sure c = same-sure _ _ (ap (λ (x : SuffixValue). x.core) c.self.view_is) c.args.input.now c.is_match.ensures.sure
+
+pub returns-clause-sure : goal.returns-clause-sure
+returns-clause-sure c = same-sure _ _ (ap (λ (x : SuffixValue). x.core) c.self.view_is) c.args.input.now c.whether_after.ensures.sure
+
+pub attempt-tried-requires-clause-fits : goal.attempt-tried-requires-clause-fits
+attempt-tried-requires-clause-fits c = c.requires

@@ -7,6 +7,7 @@ use Rattle.rx_strategy.specs.declared.strategy.Strategy.{Strategy}
 use Rattle.rx_strategy.proofs.DfaLemmas.{less-asked}
 use Rattle.rx_strategies.specs.Attempts.{SuffixValue, IsSuffixFor, HasTried}
 use Rattle.rx_strategies.proofs.AttemptLemmas.{ok-answers, ok-slots}
+use Rattle.rx_strategies.proofs.SameLemmas.{asked-fits, asked-range, same-fits, same-alike, same-twice, same-range, same-sure}
 use Rattle.rx_strategies.proofs.suffix.ReverseSuffix.search_slots.Goals as goal
 
 pub returns-then-not-tells_free-clause-answer : goal.returns-then-not-tells_free-clause-answer
@@ -34,7 +35,8 @@ returns-clause-answer c =
     let s = k.core in
     let v = c.args.input.now in
     let tried = c.attempt-tried.result in
-    ok-answers (λ r. IsSuffixFor k r) (λ r. HasTried s v tried r) (prefilter_in s) v (λ r p. (p.is_for.0, c.attempt-tried.ensures.answer r (less-asked (prefilter_in s) r v p))) (kind_in s)
+    ok-answers (λ r. IsSuffixFor k r) (λ r. HasTried s v tried r) (prefilter_in s) v
+    (λ r p. (p.is_for.0, c.attempt-tried.ensures.answer r (less-asked (prefilter_in s) r v p))) (kind_in s)
     match_value c.slots_after.result
     (subst (λ (t : Strategy). IfOk c.slots_after.result (IsAnswer (λ r. HasTried t v tried r) (prefilter_in t) (kind_in t) v match_value))
     (ap (λ (x : SuffixValue). x.core) c.self.view_is) c.slots_after.ensures.answer)
@@ -46,7 +48,76 @@ returns-clause-slots c =
     let v = c.args.input.now in
     let tried = c.attempt-tried.result in
     let slots = c.slots_after.new.slots in
-    ok-slots (λ r. IsSuffixFor k r) (λ r. HasTried s v tried r) (prefilter_in s) v (λ r p. (p.is_for.0, c.attempt-tried.ensures.answer r (less-asked (prefilter_in s) r v p))) (kind_in s)
+    ok-slots (λ r. IsSuffixFor k r) (λ r. HasTried s v tried r) (prefilter_in s) v
+    (λ r p. (p.is_for.0, c.attempt-tried.ensures.answer r (less-asked (prefilter_in s) r v p))) (kind_in s)
     match_value slots c.slots_after.result
     (subst (λ (t : Strategy). IfOk c.slots_after.result (AreSlotsOfAnswer (λ r. HasTried t v tried r) (prefilter_in t) (kind_in t) v match_value slots))
     (ap (λ (x : SuffixValue). x.core) c.self.view_is) c.slots_after.ensures.slots)
+
+pub search_slots-requires : goal.search_slots-requires
+search_slots-requires c = asked-fits _ _ (ap (λ (x : SuffixValue). x.core) c.self.view_is) _ c.requires
+
+pub returns-then-not-tells_free-clause-within : goal.returns-then-not-tells_free-clause-within
+returns-then-not-tells_free-clause-within c = c.search_slots.ensures.within
+
+pub returns-clause-within : goal.returns-clause-within
+returns-clause-within c = c.slots_after.ensures.within
+
+pub returns-then-not-tells_free-clause-none : goal.returns-then-not-tells_free-clause-none
+returns-then-not-tells_free-clause-none c = c.search_slots.ensures.none
+
+pub returns-clause-none : goal.returns-clause-none
+returns-clause-none c = c.slots_after.ensures.none
+
+pub returns-then-not-tells_free-clause-err : goal.returns-then-not-tells_free-clause-err
+returns-then-not-tells_free-clause-err c = c.search_slots.ensures.err
+
+pub returns-clause-err : goal.returns-clause-err
+returns-clause-err c = c.slots_after.ensures.err
+
+pub returns-then-not-tells_free-clause-slots_within : goal.returns-then-not-tells_free-clause-slots_within
+returns-then-not-tells_free-clause-slots_within c = c.search_slots.ensures.slots_within
+
+pub returns-clause-slots_within : goal.returns-clause-slots_within
+returns-clause-slots_within c = c.slots_after.ensures.slots_within
+
+pub returns-then-not-tells_free-clause-in_range : goal.returns-then-not-tells_free-clause-in_range
+returns-then-not-tells_free-clause-in_range c =
+    same-range _ _ (ap (λ (x : SuffixValue). x.core) c.self.view_is) (λ m. m.pattern) c.search_slots.result c.search_slots.ensures.in_range
+
+pub returns-clause-in_range : goal.returns-clause-in_range
+returns-clause-in_range c =
+    same-range _ _ (ap (λ (x : SuffixValue). x.core) c.self.view_is) (λ m. m.pattern) c.slots_after.result c.slots_after.ensures.in_range
+
+pub returns-then-not-tells_free-clause-cache : goal.returns-then-not-tells_free-clause-cache
+returns-then-not-tells_free-clause-cache c = same-fits _ _ (ap (λ (x : SuffixValue). x.core) c.self.view_is) _ c.search_slots.ensures.cache
+
+pub returns-clause-cache : goal.returns-clause-cache
+returns-clause-cache c = same-fits _ _ (ap (λ (x : SuffixValue). x.core) c.self.view_is) _ c.slots_after.ensures.cache
+
+pub returns-then-not-tells_free-clause-memory : goal.returns-then-not-tells_free-clause-memory
+returns-then-not-tells_free-clause-memory c = same-alike _ _ (ap (λ (x : SuffixValue). x.core) c.self.view_is) _ _ c.search_slots.ensures.memory
+
+pub returns-clause-memory : goal.returns-clause-memory
+returns-clause-memory c =
+    same-twice _ _ (ap (λ (x : SuffixValue). x.core) c.self.view_is) _ _ _ c.attempt-tried.ensures.memory c.slots_after.ensures.memory
+
+pub returns-then-not-tells_free-clause-sure : goal.returns-then-not-tells_free-clause-sure
+returns-then-not-tells_free-clause-sure c =
+    same-sure _ _ (ap (λ (x : SuffixValue). x.core) c.self.view_is) c.args.input.now c.search_slots.ensures.sure
+
+pub returns-clause-sure : goal.returns-clause-sure
+returns-clause-sure c = same-sure _ _ (ap (λ (x : SuffixValue). x.core) c.self.view_is) c.args.input.now c.slots_after.ensures.sure
+
+pub attempt-tried-requires-clause-fits : goal.attempt-tried-requires-clause-fits
+attempt-tried-requires-clause-fits c = c.requires
+
+pub slots_after-requires-clause-fits : goal.slots_after-requires-clause-fits
+slots_after-requires-clause-fits c = asked-fits _ _ (ap (λ (x : SuffixValue). x.core) c.self.view_is) _ c.attempt-tried.ensures.cache
+
+pub slots_after-requires-clause-lies : goal.slots_after-requires-clause-lies
+slots_after-requires-clause-lies c = c.attempt-tried.ensures.within
+
+pub slots_after-requires-clause-in_range : goal.slots_after-requires-clause-in_range
+slots_after-requires-clause-in_range c =
+    asked-range _ _ (ap (λ (x : SuffixValue). x.core) c.self.view_is) (λ m. m.pattern) c.attempt-tried.result c.attempt-tried.ensures.in_range
