@@ -4,6 +4,7 @@ pub mod EscapeEnds
 pub mod EscapeKeeps
 pub mod EscapeLemmas
 pub mod FlagsLemmas
+pub mod GroupNameLemmas
 pub mod NamesLemmas
 pub mod NumberLemmas
 pub mod PartLemmas
