@@ -1,7 +1,7 @@
 -- How a trie becomes an automaton, place by place.
-use Rattle.std.proofs.Common.{◌≡◌, ◌≢◌, ℕ, ◌+◌, ◌-◌, ◌*◌, ◌/◌, ◌%◌, ◌<◌, ◌≤◌, Bool, false, List, [], ◌∷◌, ◌++◌, All, length, drop, replicate, set, slice_index, slice_index_or, refl, sym, ap, subst, ◌∙◌, arith, ⊎_elim}
+use Rattle.std.proofs.Common.{◌≡◌, ◌≢◌, ℕ, ◌+◌, ◌-◌, ◌*◌, ◌/◌, ◌%◌, ◌<◌, ◌≤◌, Bool, false, List, [], ◌∷◌, ◌++◌, All, length, drop, replicate, set, get_or, slice_index, slice_index_or, refl, sym, ap, subst, ◌∙◌, arith, ⊎_elim}
 use Rattle.std.proofs.lemmas.Bool.{cases_lt, cases_eq, false≢true}
-use Rattle.std.proofs.lemmas.List.{get_or_append_left, get_or_push, get_or-set_same, get_or-set_other, get_or-replicate, length-set, length-append, length-replicate, append_assoc}
+use Rattle.std.proofs.lemmas.List.{get_or_read, get_or_append_left, get_or_push, get_or-set_same, get_or-set_other, get_or-replicate, length-set, length-append, length-replicate, append_assoc}
 use Rattle.std.proofs.lemmas.List.Elements.{All-weaker}
 use Rattle.memchr.specs.Find.{OccursAt}
 use Rattle.rx_prefilter.specs.Tries.{stop, word_of, word_at, StandsAt, Walks, IsTrieOf, HasNeedleOf}
@@ -190,6 +190,17 @@ module _ (needles : List (List ℕ)) (next depths : List ℕ) (ends : List Bool)
         rw (e, get_or_push queue child 0 (length queue) refl) low)
         (cases_lt k (length queue));
   }
+
+  -- a place of a row lies within the table
+  pub place_within : (q b : ℕ) → q < length depths → b < 256 → q * 256 + b < length next
+  place_within q b low byte = let rows = l.automaton.rows in let tall = l.automaton.tall in omega (arith, rows, tall, low, byte)
+
+  -- what was read at a place and is a state stands there
+  pub stands_there : (q b v : ℕ) → q < length depths → b < 256 → v ≡ get_or next (q * 256 + b) v → v ≢ stop → StandsAt next (q * 256 + b) v
+  stands_there q b v low byte read some =
+      let within = place_within q b low byte in
+      let is = get_or_read next (q * 256 + b) v within read 0 in
+      (within, λ e. some (is ∙ e), sym is)
 
   -- the state that stands at a place
   pub child_low : (q b child : ℕ) → StandsAt next (q * 256 + b) child → child < length depths

@@ -1,10 +1,22 @@
 use Rattle.std.proofs.Common.{◌≡◌, ◌++◌, ◌∷◌, [], List, true, ℕ, length, map, take, get_or, arith, sym, ap, ◌∙◌}
 use Rattle.std.specs.Vec.{vec_items}
 use Rattle.std.proofs.lemmas.Bool.{eqb-true}
+use Rattle.std.proofs.lemmas.Result.{IfOk-from_err}
 use Rattle.rx_prefilter.specs.Bytes.{single}
 use Rattle.rx_prefilter.specs.Choices.{is_single}
 use Rattle.rx_prefilter.proofs.ListLemmas.{list_all-at, map-take_more, map-push, one_element}
+use Rattle.rx_prefilter.proofs.ShownLemmas.{shown-end}
 use Rattle.rx_prefilter.proofs.needles.first_bytes.Goals as goal
+
+pub loop-needle-init : goal.loop-needle-init
+loop-needle-init c = ap (map single) c.new-bytes.ensures.items
+
+pub returns-in_err-push : goal.returns-in_err-push
+returns-in_err-push c = IfOk-from_err c.from_residual.result _ c.from_residual.ensures.0
+
+pub returns : goal.returns
+returns c =
+    shown-end single vec_items c.args.needles.now c.loop-needle.needle-index c.loop-needle.bytes.items c.loop-needle-test.false c.loop-needle.invariant
 
 pub index-requires : goal.index-requires
 index-requires c =
