@@ -69,24 +69,27 @@ returns-in-Full-clause-in_range g c =
 
 pub returns-in-Full-clause-err : goal.returns-in-Full-clause-err
 returns-in-Full-clause-err g c =
+    let call = c.try_reverse_inner in
     let a = c.args in
     let sort : c.args.prefix.now.sort ≡ Full c.in-Full.rev = sym (ap (λ (x : PrefixValue). x.sort) c.prefix.view_is) ∙ c.in-Full.is in
-    subst (λ (p : Dfas × Sort). IfErr c.try_reverse_inner.result (StopsBy a.patience (InnerFailsIn p.0 (dfa_in p.1) a.pre.now a.input.now c.try_reverse_inner.new.lazies
-    (prefix_gives_up p.1 c.args.states.now) (prefix_wants p.1)))) (λ i. (c.get_dfas-dfas.ensures.value i, sym sort i)) c.try_reverse_inner.ensures.err
+    subst (λ (p : Dfas × Sort). IfErr call.result (StopsBy a.patience (InnerFailsIn p.0 (dfa_in p.1) a.pre.now a.input.now call.new.lazies
+    (prefix_gives_up p.1 c.args.states.now) (prefix_wants p.1)))) (λ i. (c.get_dfas-dfas.ensures.value i, sym sort i)) call.ensures.err
 
 pub returns-in-Full-clause-ticks : goal.returns-in-Full-clause-ticks
 returns-in-Full-clause-ticks g c whole =
+    let call = c.try_reverse_inner in
     let a = c.args in
     let sort : c.args.prefix.now.sort ≡ Full c.in-Full.rev = sym (ap (λ (x : PrefixValue). x.sort) c.prefix.view_is) ∙ c.in-Full.is in
-    subst (λ (p : Dfas × Sort). IfOk c.try_reverse_inner.result (HasCountedInner p.0 (dfa_in p.1) a.pre.now a.input.now a.steps.now c.try_reverse_inner.new.steps))
-    (λ i. (c.get_dfas-dfas.ensures.value i, sym sort i)) (c.try_reverse_inner.ensures.ticks whole)
+    subst (λ (p : Dfas × Sort). IfOk call.result (HasCountedInner p.0 (dfa_in p.1) a.pre.now a.input.now a.steps.now call.new.steps))
+    (λ i. (c.get_dfas-dfas.ensures.value i, sym sort i)) (call.ensures.ticks whole)
 
 pub returns-in-Full-clause-cache : goal.returns-in-Full-clause-cache
 returns-in-Full-clause-cache g c =
+    let call = c.try_reverse_inner in
     let was = c.cache.inside in
     let held : CacheValue = record { pikevm = was.pikevm; onepass = was.onepass; backtrack = was.backtrack; lazies = was.lazies; memory = was.memory } in
-    lazies-fit c.args.self.now held c.args.cache.now c.cache.view_is c.get_dfas-dfas.result.now c.get_dfas-dfas.ensures.value c.try_reverse_inner.new.lazies c.requires.fits
-    c.try_reverse_inner.ensures.fits
+    lazies-fit c.args.self.now held c.args.cache.now c.cache.view_is c.get_dfas-dfas.result.now c.get_dfas-dfas.ensures.value call.new.lazies c.requires.fits
+    call.ensures.fits
 
 pub returns-in-Full-clause-memory : goal.returns-in-Full-clause-memory
 returns-in-Full-clause-memory g c =
@@ -112,24 +115,27 @@ returns-in-Some-clause-in_range g c =
 
 pub returns-in-Some-clause-err : goal.returns-in-Some-clause-err
 returns-in-Some-clause-err g c =
+    let call = c.try_reverse_inner-in-Lazy in
     let a = c.args in
     let sort : c.args.prefix.now.sort ≡ Lazy c.in-Lazy.rev = sym (ap (λ (x : PrefixValue). x.sort) c.prefix.view_is) ∙ c.in-Lazy.is in
-    subst (λ (p : Dfas × Sort). IfErr c.try_reverse_inner-in-Lazy.result (StopsBy a.patience (InnerFailsIn p.0 (dfa_in p.1) a.pre.now a.input.now c.try_reverse_inner-in-Lazy.new.lazies
-    (prefix_gives_up p.1 (Some c.try_reverse_inner-in-Lazy.new.rev_cache)) (prefix_wants p.1)))) (λ i. (c.get_dfas-dfas.ensures.value i, sym sort i)) c.try_reverse_inner-in-Lazy.ensures.err
+    subst (λ (p : Dfas × Sort). IfErr call.result (StopsBy a.patience (InnerFailsIn p.0 (dfa_in p.1) a.pre.now a.input.now call.new.lazies
+    (prefix_gives_up p.1 (Some call.new.rev_cache)) (prefix_wants p.1)))) (λ i. (c.get_dfas-dfas.ensures.value i, sym sort i)) call.ensures.err
 
 pub returns-in-Some-clause-ticks : goal.returns-in-Some-clause-ticks
 returns-in-Some-clause-ticks g c whole =
+    let call = c.try_reverse_inner-in-Lazy in
     let a = c.args in
     let sort : c.args.prefix.now.sort ≡ Lazy c.in-Lazy.rev = sym (ap (λ (x : PrefixValue). x.sort) c.prefix.view_is) ∙ c.in-Lazy.is in
-    subst (λ (p : Dfas × Sort). IfOk c.try_reverse_inner-in-Lazy.result (HasCountedInner p.0 (dfa_in p.1) a.pre.now a.input.now a.steps.now c.try_reverse_inner-in-Lazy.new.steps))
-    (λ i. (c.get_dfas-dfas.ensures.value i, sym sort i)) (c.try_reverse_inner-in-Lazy.ensures.ticks whole)
+    subst (λ (p : Dfas × Sort). IfOk call.result (HasCountedInner p.0 (dfa_in p.1) a.pre.now a.input.now a.steps.now call.new.steps))
+    (λ i. (c.get_dfas-dfas.ensures.value i, sym sort i)) (call.ensures.ticks whole)
 
 pub returns-in-Some-clause-cache : goal.returns-in-Some-clause-cache
 returns-in-Some-clause-cache g c =
+    let call = c.try_reverse_inner-in-Lazy in
     let was = c.cache.inside in
     let held : CacheValue = record { pikevm = was.pikevm; onepass = was.onepass; backtrack = was.backtrack; lazies = was.lazies; memory = was.memory } in
-    lazies-fit c.args.self.now held c.args.cache.now c.cache.view_is c.get_dfas-dfas.result.now c.get_dfas-dfas.ensures.value c.try_reverse_inner-in-Lazy.new.lazies c.requires.fits
-    c.try_reverse_inner-in-Lazy.ensures.fits
+    lazies-fit c.args.self.now held c.args.cache.now c.cache.view_is c.get_dfas-dfas.result.now c.get_dfas-dfas.ensures.value call.new.lazies c.requires.fits
+    call.ensures.fits
 
 pub returns-in-Some-clause-memory : goal.returns-in-Some-clause-memory
 returns-in-Some-clause-memory g c =
