@@ -18,3 +18,4 @@ pub mod SameLemmas
 pub mod NamedFormsLemmas
 pub mod Utf8FormsLemmas
 pub mod OrderedFormsLemmas
+pub mod ListLemmas

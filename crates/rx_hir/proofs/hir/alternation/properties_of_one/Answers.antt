@@ -3,7 +3,7 @@ use Rattle.std.proofs.lemmas.List.{at_drop_more}
 use Rattle.rx_model.specs.Expression.{alternation, cons}
 use Rattle.rx_hir.specs.Normal.{expressions}
 use Rattle.rx_hir.specs.PropertiesViews.{AreOf}
-use Rattle.rx_hir.specs.Sound.{IsSound}
+use Rattle.rx_hir.specs.Sound.{IsSound, AreSound}
 use Rattle.rx_hir.proofs.JoinedLemmas.{expressions-drop}
 use Rattle.rx_hir.proofs.SoundLemmas.{AreSound-drop}
 use Rattle.rx_hir.proofs.hir.alternation.properties_of_one.Goals as goal
@@ -28,3 +28,13 @@ loop-i-preserved c =
           (rw (← e) c.loop-i.invariant.sound);
       within = within;
     }
+
+pub returns-clause-value : goal.returns-clause-value
+returns-clause-value c =
+    let ended : c.loop-i.i ≡ 0 = omega arith in
+    subst (λ n. AreOf (alternation (expressions (drop n c.args.alternatives.now))) c.loop-i.properties) ended c.loop-i.invariant.later
+
+pub returns-clause-sound : goal.returns-clause-sound
+returns-clause-sound c =
+    let ended : c.loop-i.i ≡ 0 = omega arith in
+    subst (λ n. AreSound (expressions (drop n c.args.alternatives.now))) ended c.loop-i.invariant.sound
