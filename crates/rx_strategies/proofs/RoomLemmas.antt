@@ -8,8 +8,8 @@ use Rattle.rx_strategy.specs.Prefix.{PrefixValue, FitsPrefix, prefix_states, are
 use Rattle.rx_strategy.specs.declared.strategy.Strategy.{Strategy as CoreStrategy}
 use Rattle.rx_strategies.specs.Attempting.{is_by_inner}
 use Rattle.rx_strategies.specs.Attempts.{SuffixValue, InnerValue}
-use Rattle.rx_strategies.specs.Cache.{CacheValue, Fits, FitsCore, FitsInner, FitsAsBefore, StillFits, memory_of, accounted_for}
-use Rattle.rx_strategies.specs.Cache.{rooms_memory, rooms_fixed, fixed_in, ServesMore, ServesAsBefore, AreAlike, AccountsAlike, AccountsAlikeIn, InnerAlikeIn}
+use Rattle.rx_strategies.specs.Cache.{CacheValue, Fits, FitsCore, FitsInner, FitsAsBefore, StillFits, accounted_for}
+use Rattle.rx_strategies.specs.Cache.{rooms_memory, rooms_fixed, fixed_in, ServesMore, ServesAsBefore, AreAlike, AccountsAlike, AccountsAlikeIn}
 use Rattle.rx_strategies.specs.declared.strategy.Strategy.{Strategy}
 use Rattle.rx_strategies.specs.declared.strategy.Strategy.TheVariants.{Pre, Core, ReverseAnchored, ReverseSuffix, ReverseInner}
 

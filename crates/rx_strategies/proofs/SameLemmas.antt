@@ -1,10 +1,9 @@
 -- What is told of a core, said of the strategy that holds it: that one is seen by its parts.
 use Rattle.std.proofs.Common.{◌≡◌, ℕ, ◌<◌, List, sym, subst, true}
-use Rattle.std.specs.Prelude.{Bool, Option, Some, None, option_map, Result, IfOk, IfSome}
+use Rattle.std.specs.Prelude.{Bool, Option, Result, IfOk, IfSome}
 use Rattle.rx_model.specs.Search.{Match}
-use Rattle.rx_search.specs.Answer.{IsAnswer, AreSlotsOfAnswer, TellsWhether, half_of}
+use Rattle.rx_search.specs.Answer.{IsAnswer, AreSlotsOfAnswer, TellsWhether}
 use Rattle.rx_search.specs.Input.{InputValue}
-use Rattle.rx_search.specs.Matches.{MatchValue, HalfMatchValue}
 use Rattle.rx_strategy.specs.Cache.{CacheValue, Fits, AccountsAlike}
 use Rattle.rx_strategy.specs.Impossible.{IsKnownImpossible}
 use Rattle.rx_strategy.specs.Strategy.{IsFor, kind_in, pattern_count, prefilter_in, properties_of, tells_in}

@@ -1,8 +1,8 @@
-use Rattle.std.proofs.Common.{◌≡◌, sym, ap, ◌∙◌, subst, true, true≢false}
+use Rattle.std.proofs.Common.{sym, ap, ◌∙◌, subst, true, true≢false}
 use Rattle.std.specs.Prelude.{IsSomeAnd}
 use Rattle.std.proofs.lemmas.Result.{IfOk-from_err, err_from_is_err_and}
 use Rattle.rx_strategy.specs.Cache as lower
-use Rattle.rx_strategy.specs.Prefix.{PrefixValue, FitsPrefix, Supplies, HoldsNoPrefix, prefix_states}
+use Rattle.rx_strategy.specs.Prefix.{PrefixValue, FitsPrefix, Supplies}
 use Rattle.rx_strategy.specs.declared.strategy.Strategy.{Strategy}
 use Rattle.rx_strategies.specs.Cache.{FitsInner}
 use Rattle.rx_strategies.proofs.CacheLemmas.{empty-states, none-read}
