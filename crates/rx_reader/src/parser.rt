@@ -203,10 +203,26 @@ impl<'a> Parser<'a> {
         requires { at_end (place self.cursor) ≡ true }
         ensures { MatchResult result (λ a. answer self.entry ≡ Ok a) (λ e. Refuses e (answer self.entry)) }
     {
-        let mut parser = self;
-        match parser.frames.pop() {
-            Some(frame) => Err(frame.opening.refuse(SyntaxErrorKind::UnclosedGroup)),
-            None => Ok(parser.level.whole()?),
+        // Each part by a call (DECISIONS: large values are let go by name).
+        let Parser {
+            cursor,
+            mut frames,
+            level,
+            ..
+        } = self;
+        drop(cursor);
+        match frames.pop() {
+            Some(frame) => {
+                let error = frame.opening.refuse(SyntaxErrorKind::UnclosedGroup);
+                drop(frame);
+                drop(frames);
+                drop(level);
+                Err(error)
+            }
+            None => {
+                drop(frames);
+                Ok(level.whole()?)
+            }
         }
     }
 }

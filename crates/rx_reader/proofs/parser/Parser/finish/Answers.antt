@@ -15,7 +15,7 @@ returns-in-Some c =
     let f = around c.in-Some.frame in
     let fs = innermost c.pop.new.self.items in
     let stack = stack_of s.frames.items c.pop.new.self.items c.in-Some.frame c.in-Some.ensures.items in
-    rw c.refuse.ensures (resume-end s.config (innermost s.frames.items) g s.flags _ p c.requires
+    rw c.refuse-error.ensures (resume-end s.config (innermost s.frames.items) g s.flags _ p c.requires
     ∙ ap (λ (x : List Around). resume s.config x g (Ok (no_items, p))) stack ∙ resume-unclosed s.config fs f g p c.requires)
 
 pub returns-in_ok-whole-in-None : goal.returns-in_ok-whole-in-None
