@@ -7,3 +7,4 @@ pub mod GroupSlotLemmas
 pub mod ByteClassLemmas
 pub mod CaptureLemmas
 pub mod FindLemmas
+pub mod PatternSetLemmas
