@@ -13,5 +13,6 @@ pub mod CacheLemmas
 pub mod CoreLemmas
 pub mod PairLemmas
 pub mod PartLemmas
+pub mod BuiltLemmas
 pub mod BacktrackLemmas
 pub mod ThreadLemmas
