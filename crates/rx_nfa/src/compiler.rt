@@ -170,9 +170,28 @@ fn build(
     let which = written_in(reverse, config.get_which_captures());
     let group_info = group_info(alloc, exprs)?;
     let mut builder = Builder::new(alloc, group_info, slots_written(which, exprs, slots));
-    let starts = compile_patterns(alloc, &mut builder, reverse, which, exprs)?;
-    let start = start_of_all(alloc, &mut builder, &starts)?;
-    share_prefixes(alloc, &mut builder, start, &starts)?;
+    let starts = match compile_patterns(alloc, &mut builder, reverse, which, exprs) {
+        Ok(starts) => starts,
+        Err(error) => {
+            // By a call (DECISIONS: large values are let go by name).
+            drop(builder);
+            return Err(error);
+        }
+    };
+    let start = match start_of_all(alloc, &mut builder, &starts) {
+        Ok(start) => start,
+        Err(error) => {
+            drop(builder);
+            return Err(error);
+        }
+    };
+    match share_prefixes(alloc, &mut builder, start, &starts) {
+        Ok(()) => (),
+        Err(error) => {
+            drop(builder);
+            return Err(error);
+        }
+    }
     let facts = Facts {
         utf8: config.get_utf8(),
         reverse,

@@ -17,6 +17,6 @@ pub mod PieceLemmas
 pub mod LastLemmas
 pub mod CountLemmas
 pub mod DigitsBuilt
+pub mod BelowLemmas
 pub mod BoundLemmas
 pub mod FinishLemmas
-pub mod TailLemmas

@@ -1,4 +1,4 @@
-use Rattle.std.proofs.Common.{◌≡◌, ◌∙◌, sym, ap, subst, refl, arith, length}
+use Rattle.std.proofs.Common.{◌≡◌, ◌<◌, ◌∙◌, sym, ap, subst, refl, arith, length}
 use Rattle.std.proofs.lemmas.Result.{IfOk-from_err}
 use Rattle.std.proofs.lemmas.List.{length-map}
 use Rattle.std.specs.Prelude.{true, false, All, None as Absent}
@@ -17,6 +17,7 @@ use Rattle.rx_hir.proofs.SoundLemmas.{IsSound-ordered}
 use Rattle.rx_nfa.proofs.lemmas.runs.GroupLemmas.{slots-counted}
 use Rattle.rx_nfa.proofs.lemmas.runs.NextMatchLemmas.{written-none, writes-none}
 use Rattle.rx_nfa.proofs.lemmas.runs.PatternLemmas.{HasRuns-from, HasPatterns-forwards, StartsAll-kept}
+use Rattle.rx_nfa.proofs.lemmas.parts.BelowLemmas.{StartsAll-below}
 use Rattle.rx_nfa.proofs.lemmas.parts.SlotLemmas.{written-within}
 use Rattle.rx_nfa.proofs.lemmas.reverse.ReverseLemmas.{HasReverseRuns-from}
 use Rattle.rx_nfa.specs.Prefixes.{HasSameRuns}
@@ -27,17 +28,17 @@ pub finish-requires-clause-slots : goal.finish-requires-clause-slots
 finish-requires-clause-slots c =
     let exprs = c.args.exprs.now in
     let which = captures_kind c.written_in-which.result in
-    let starts = c.in_ok-starts.starts.items in
+    let starts = c.in-Ok.starts.items in
     let old = c.compile_patterns.new.builder in
     let new = c.start_of_all.new.builder in
-    let all : StartsAll old new starts c.in_ok-start.start = subst (λ qs. StartsAll c.compile_patterns.new.builder c.start_of_all.new.builder qs
-    c.in_ok-start.start) c.deref.ensures.value c.in_ok-start.ensures.starts in
-    let kept = StartsAll-kept old new starts c.in_ok-start.start all in
+    let all : StartsAll old new starts c.in-Ok-start_of_all.start = subst (λ qs. StartsAll c.compile_patterns.new.builder c.start_of_all.new.builder qs
+    c.in-Ok-start_of_all.start) c.deref.ensures.value c.in-Ok-start_of_all.ensures.starts in
+    let kept = StartsAll-kept old new starts c.in-Ok-start_of_all.start all in
     let written : c.share_prefixes.new.builder.slots ≡ slots_written which exprs =
-    c.in_ok-share_prefixes.ensures.slots ∙ kept.1 ∙ c.in_ok-starts.ensures.extends.slots ∙ ap (λ (d : Draft). d.slots) c.new-builder.ensures
+    c.in-Ok-share_prefixes.ensures.slots ∙ kept.1 ∙ c.in-Ok.ensures.extends.slots ∙ ap (λ (d : Draft). d.slots) c.new-builder.ensures
     ∙ c.slots_written.ensures in
     let groups : c.share_prefixes.new.builder.groups ≡ groups_of exprs =
-    c.in_ok-share_prefixes.ensures.groups ∙ kept.0 ∙ c.in_ok-starts.ensures.extends.groups ∙ ap (λ (d : Draft). d.groups) c.new-builder.ensures
+    c.in-Ok-share_prefixes.ensures.groups ∙ kept.0 ∙ c.in-Ok.ensures.extends.groups ∙ ap (λ (d : Draft). d.groups) c.new-builder.ensures
     ∙ c.in_ok-group_info.ensures in
     let within = written-within which exprs in
     let counted = slots-counted exprs ∙ sym (ap slot_count groups) in
@@ -46,27 +47,27 @@ finish-requires-clause-slots c =
 pub finish-requires-clause-patterns : goal.finish-requires-clause-patterns
 finish-requires-clause-patterns c =
     let exprs = c.args.exprs.now in
-    let starts = c.in_ok-starts.starts.items in
+    let starts = c.in-Ok.starts.items in
     let old = c.compile_patterns.new.builder in
     let new = c.start_of_all.new.builder in
-    let all : StartsAll old new starts c.in_ok-start.start = subst (λ qs. StartsAll c.compile_patterns.new.builder c.start_of_all.new.builder qs
-    c.in_ok-start.start) c.deref.ensures.value c.in_ok-start.ensures.starts in
+    let all : StartsAll old new starts c.in-Ok-start_of_all.start = subst (λ qs. StartsAll c.compile_patterns.new.builder c.start_of_all.new.builder qs
+    c.in-Ok-start_of_all.start) c.deref.ensures.value c.in-Ok-start_of_all.ensures.starts in
     let groups : c.share_prefixes.new.builder.groups ≡ groups_of exprs =
-    c.in_ok-share_prefixes.ensures.groups ∙ (StartsAll-kept old new starts c.in_ok-start.start all).0 ∙ c.in_ok-starts.ensures.extends.groups
+    c.in-Ok-share_prefixes.ensures.groups ∙ (StartsAll-kept old new starts c.in-Ok-start_of_all.start all).0 ∙ c.in-Ok.ensures.extends.groups
     ∙ ap (λ (d : Draft). d.groups) c.new-builder.ensures
     ∙ c.in_ok-group_info.ensures in
-    c.in_ok-starts.ensures.len ∙ sym (ap length groups ∙ length-map exprs group_names)
+    c.in-Ok.ensures.len ∙ sym (ap length groups ∙ length-map exprs group_names)
 
 pub finish-requires-clause-few : goal.finish-requires-clause-few
 finish-requires-clause-few c =
     let exprs = c.args.exprs.now in
-    let starts = c.in_ok-starts.starts.items in
+    let starts = c.in-Ok.starts.items in
     let old = c.compile_patterns.new.builder in
     let new = c.start_of_all.new.builder in
-    let all : StartsAll old new starts c.in_ok-start.start = subst (λ qs. StartsAll c.compile_patterns.new.builder c.start_of_all.new.builder qs
-    c.in_ok-start.start) c.deref.ensures.value c.in_ok-start.ensures.starts in
+    let all : StartsAll old new starts c.in-Ok-start_of_all.start = subst (λ qs. StartsAll c.compile_patterns.new.builder c.start_of_all.new.builder qs
+    c.in-Ok-start_of_all.start) c.deref.ensures.value c.in-Ok-start_of_all.ensures.starts in
     let groups : c.share_prefixes.new.builder.groups ≡ groups_of exprs =
-    c.in_ok-share_prefixes.ensures.groups ∙ (StartsAll-kept old new starts c.in_ok-start.start all).0 ∙ c.in_ok-starts.ensures.extends.groups
+    c.in-Ok-share_prefixes.ensures.groups ∙ (StartsAll-kept old new starts c.in-Ok-start_of_all.start all).0 ∙ c.in-Ok.ensures.extends.groups
     ∙ ap (λ (d : Draft). d.groups) c.new-builder.ensures
     ∙ c.in_ok-group_info.ensures in
     let long = ap length groups ∙ length-map exprs group_names in
@@ -80,34 +81,34 @@ returns c =
     let which = written_in (reverse_of c.args.config) (captures_of c.args.config) in
     let which_is : captures_kind c.written_in-which.result ≡ which =
     c.written_in-which.ensures ∙ (λ i. written_in (c.get_reverse-reverse.ensures i) (captures_kind (c.get_which_captures.ensures i))) in
-    let starts = c.in_ok-starts.starts.items in
+    let starts = c.in-Ok.starts.items in
     let old = c.compile_patterns.new.builder in
     let new = c.start_of_all.new.builder in
     let shared = c.share_prefixes.new.builder in
-    let sharing = c.in_ok-share_prefixes.ensures in
+    let sharing = c.in-Ok-share_prefixes.ensures in
     let nfa = c.in_ok-nfa.nfa in
     let is = c.in_ok-nfa.ensures.value in
-    let long = c.in_ok-starts.ensures.len in
-    let all : StartsAll old new starts c.in_ok-start.start =
-    subst (λ qs. StartsAll old new qs c.in_ok-start.start) c.deref.ensures.value c.in_ok-start.ensures.starts in
-    let kept = StartsAll-kept old new starts c.in_ok-start.start all in
+    let long = c.in-Ok.ensures.len in
+    let all : StartsAll old new starts c.in-Ok-start_of_all.start =
+    subst (λ qs. StartsAll old new qs c.in-Ok-start_of_all.start) c.deref.ensures.value c.in-Ok-start_of_all.ensures.starts in
+    let kept = StartsAll-kept old new starts c.in-Ok-start_of_all.start all in
     let before : new.slots ≡ slots_written which exprs =
-    kept.1 ∙ c.in_ok-starts.ensures.extends.slots ∙ ap (λ (d : Draft). d.slots) c.new-builder.ensures ∙ c.slots_written.ensures
+    kept.1 ∙ c.in-Ok.ensures.extends.slots ∙ ap (λ (d : Draft). d.slots) c.new-builder.ensures ∙ c.slots_written.ensures
     ∙ ap (λ w. slots_written w c.args.exprs.now) which_is in
     let written : shared.slots ≡ slots_written which exprs = sharing.slots ∙ before in
     let groups : shared.groups ≡ groups_of exprs =
-    sharing.groups ∙ kept.0 ∙ c.in_ok-starts.ensures.extends.groups ∙ ap (λ (d : Draft). d.groups) c.new-builder.ensures ∙ c.in_ok-group_info.ensures in
+    sharing.groups ∙ kept.0 ∙ c.in-Ok.ensures.extends.groups ∙ ap (λ (d : Draft). d.groups) c.new-builder.ensures ∙ c.in_ok-group_info.ensures in
     let slots : nfa.slots ≡ slots_of exprs = ap (λ (n : Nfa). n.slots) is ∙ ap slot_count groups ∙ sym (slots-counted exprs) in
     let states : nfa.states ≡ shared.states = ap (λ (n : Nfa). n.states) is in
     let terminator : nfa.terminator ≡ terminator_of c.args.config = ap (λ (n : Nfa). n.terminator) is ∙ c.get_look_matcher.ensures in
     let has : HasParts old.states (directed_part reverse (patterns_of exprs true 0 which)) exprs (length exprs) starts =
     subst (λ b. HasParts c.compile_patterns.new.builder.states (directed_part b (patterns_of c.args.exprs.now true 0 which)) c.args.exprs.now
-    (length c.args.exprs.now) c.in_ok-starts.starts.items) c.get_reverse-reverse.ensures
+    (length c.args.exprs.now) c.in-Ok.starts.items) c.get_reverse-reverse.ensures
     (subst (λ w. HasParts c.compile_patterns.new.builder.states (directed_part c.get_reverse-reverse.result (patterns_of c.args.exprs.now true 0 w))
-    c.args.exprs.now (length c.args.exprs.now) c.in_ok-starts.starts.items) which_is c.in_ok-starts.ensures.has) in
+    c.args.exprs.now (length c.args.exprs.now) c.in-Ok.starts.items) which_is c.in-Ok.ensures.has) in
     let made : Nfa = record {
       states = shared.states;
-      start_anchored = c.in_ok-start.start;
+      start_anchored = c.in-Ok-start_of_all.start;
       starts = starts;
       slots = slot_count shared.groups;
       groups = shared.groups;
@@ -127,8 +128,8 @@ returns c =
       few =
           (let grown = ap (λ (n : Nfa). length n.states) is in
           let none = ap (λ (d : Draft). length d.states) c.new-builder.ensures in
-          let patterns = c.in_ok-starts.ensures.count in
-          let last = c.in_ok-start.ensures.count in
+          let patterns = c.in-Ok.ensures.count in
+          let last = c.in-Ok-start_of_all.ensures.count in
           let long' = sharing.long in
           omega arith);
       slots = slots;
@@ -138,7 +139,7 @@ returns c =
       always_start_anchored = ap (λ (n : Nfa). n.always_start_anchored) is ∙ c.all_start_anchored.ensures;
       has_empty = ap (λ (n : Nfa). n.has_empty) is ∙ c.one_can_be_empty.ensures;
       accounted = ap (λ (n : Nfa). n.accounted) is ∙ c.requires.states;
-      ordered = λ p h at. IsSound-ordered h (c.in_ok-starts.ensures.sound p h at);
+      ordered = λ p h at. IsSound-ordered h (c.in-Ok.ensures.sound p h at);
       reverse = ap (λ (n : Nfa). n.reverse) is ∙ c.get_reverse-reverse.ensures;
       runs = λ ahead utf8_empty.
           (let same : which ≡ captures_of c.args.config = ap (λ b. written_in b (captures_of c.args.config)) ahead in
@@ -164,7 +165,7 @@ returns c =
           (HasReverseRuns-from (patterns_of exprs utf8_empty (terminator_of c.args.config) which) (with_states made new.states) old new
           (subst (λ b. HasParts old.states (directed_part b (patterns_of exprs true 0 which)) exprs (length exprs) starts) behind has) long
           c.get_look_matcher.ensures refl all
-          (λ p h at. IsSound-ordered h (c.in_ok-starts.ensures.sound p h at))) in
+          (λ p h at. IsSound-ordered h (c.in-Ok.ensures.sound p h at))) in
           subst (λ n. HasReverseRuns n (patterns_of exprs utf8_empty (terminator_of c.args.config) (captures_of c.args.config))) (sym is)
           (record { patterns = runs.patterns; each = runs.each; all = runs.all }));
     }
@@ -172,14 +173,48 @@ returns c =
 pub returns-in_err-group_info : goal.returns-in_err-group_info
 returns-in_err-group_info c = IfOk-from_err c.from_residual.result _ c.from_residual.ensures.0
 
-pub returns-in_err-starts : goal.returns-in_err-starts
-returns-in_err-starts c = IfOk-from_err c.from_residual-in_err-starts.result _ c.from_residual-in_err-starts.ensures.0
-
-pub returns-in_err-start : goal.returns-in_err-start
-returns-in_err-start c = IfOk-from_err c.from_residual-in_err-start.result _ c.from_residual-in_err-start.ensures.0
-
-pub returns-in_err-share_prefixes : goal.returns-in_err-share_prefixes
-returns-in_err-share_prefixes c = IfOk-from_err c.from_residual-in_err-share_prefixes.result _ c.from_residual-in_err-share_prefixes.ensures.0
-
 pub returns-in_err-nfa : goal.returns-in_err-nfa
 returns-in_err-nfa c = IfOk-from_err c.from_residual-in_err-nfa.result _ c.from_residual-in_err-nfa.ensures.0
+
+pub compile_patterns-requires-clause-fits : goal.compile_patterns-requires-clause-fits
+compile_patterns-requires-clause-fits c =
+    let none = ap (λ (d : Draft). length d.states) c.new-builder.ensures in
+    let states = c.requires.states in
+    let few = c.requires.few_states in
+    omega arith
+
+pub start_of_all-requires-clause-inside : goal.start_of_all-requires-clause-inside
+start_of_all-requires-clause-inside c =
+    subst (All (λ q. q < length c.compile_patterns.new.builder.states)) (sym c.deref.ensures.value) c.in-Ok.ensures.inside
+
+pub start_of_all-requires-clause-fits : goal.start_of_all-requires-clause-fits
+start_of_all-requires-clause-fits c =
+    let none = ap (λ (d : Draft). length d.states) c.new-builder.ensures in
+    let count = c.in-Ok.ensures.count in
+    let states = c.requires.states in
+    let few = c.requires.few_states in
+    omega arith
+
+pub share_prefixes-requires-clause-start : goal.share_prefixes-requires-clause-start
+share_prefixes-requires-clause-start c = c.in-Ok-start_of_all.ensures.inside
+
+pub share_prefixes-requires-clause-starts : goal.share_prefixes-requires-clause-starts
+share_prefixes-requires-clause-starts c =
+    subst (All (λ q. q < length c.start_of_all.new.builder.states)) (sym c.deref-2.ensures.value)
+    (StartsAll-below c.compile_patterns.new.builder c.start_of_all.new.builder c.deref.result.now c.in-Ok.starts.items c.in-Ok-start_of_all.start
+    c.in-Ok-start_of_all.ensures.starts c.in-Ok.ensures.inside)
+
+pub finish-requires-clause-start : goal.finish-requires-clause-start
+finish-requires-clause-start c =
+    let inside = c.in-Ok-start_of_all.ensures.inside in
+    let long = c.in-Ok-share_prefixes.ensures.long in
+    omega arith
+
+pub finish-requires-clause-starts : goal.finish-requires-clause-starts
+finish-requires-clause-starts c =
+    subst (λ n. All (λ q. q < n) c.in-Ok.starts.items) (sym c.in-Ok-share_prefixes.ensures.long)
+    (StartsAll-below c.compile_patterns.new.builder c.start_of_all.new.builder c.deref.result.now c.in-Ok.starts.items c.in-Ok-start_of_all.start
+    c.in-Ok-start_of_all.ensures.starts c.in-Ok.ensures.inside)
+
+pub finish-requires-clause-accounted : goal.finish-requires-clause-accounted
+finish-requires-clause-accounted c = c.requires.few_states

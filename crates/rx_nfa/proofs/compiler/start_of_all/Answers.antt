@@ -1,5 +1,6 @@
-use Rattle.std.proofs.Common.{refl}
+use Rattle.std.proofs.Common.{refl, arith}
 use Rattle.std.proofs.lemmas.Result.{IfOk-from_err}
+use Rattle.rx_nfa.proofs.lemmas.parts.CompileLemmas.{pushed-grown}
 use Rattle.rx_nfa.proofs.compiler.start_of_all.Goals as goal
 
 pub returns-in_err-from_slice-clause-starts : goal.returns-in_err-from_slice-clause-starts
@@ -34,3 +35,12 @@ push-requires-clause-sorted c = tt
 
 pub push-requires-clause-silent : goal.push-requires-clause-silent
 push-requires-clause-silent c = refl
+
+pub returns-clause-inside : goal.returns-clause-inside
+returns-clause-inside c =
+    let id = c.in_ok-start.ensures.id in
+    let grown = pushed-grown c.args.builder.now c.push.new.self _ c.in_ok-start.ensures.states in
+    omega arith
+
+pub returns-clause-count : goal.returns-clause-count
+returns-clause-count c = let grown = pushed-grown c.args.builder.now c.push.new.self _ c.in_ok-start.ensures.states in omega arith

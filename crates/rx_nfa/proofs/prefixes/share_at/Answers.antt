@@ -1,8 +1,9 @@
-use Rattle.std.proofs.Common.{◌≡◌, ◌+◌, suc, subst, arith}
+use Rattle.std.proofs.Common.{◌≡◌, ◌+◌, suc, subst, arith, sym}
 use Rattle.std.specs.Prelude.{IfSome}
 use Rattle.rx_nfa.specs.Forks.{IsFork}
 use Rattle.rx_nfa.specs.Sharing.{Sharing}
 use Rattle.rx_nfa.proofs.lemmas.prefixes.SharingLemmas.{Sharing-more}
+use Rattle.rx_nfa.specs.Draft.{Draft}
 use Rattle.rx_nfa.proofs.prefixes.share_at.Goals as goal
 
 pub returns-then-branch-clause-sharing : goal.returns-then-branch-clause-sharing
@@ -16,3 +17,7 @@ returns-then-branch-clause-sharing c = λ states known h.
     subst (Sharing c.args.named.now states c.plant.new.builder.states) next
     (Sharing-more c.args.named.now states c.args.builder.now.states c.plant.new.builder.states c.args.done c.args.root c.in-Some.fork known h (omega arith)
     c.requires.done is (c.in_ok-plant.ensures.planted c.if-branch.true))
+
+pub returns-clause-sharing : goal.returns-clause-sharing
+returns-clause-sharing c = λ states known h.
+    subst (λ (d : Draft). Sharing c.args.named.now states d.states c.args.done) (sym (c.in_ok-plant.ensures.same c.if-branch.false)) h

@@ -6,6 +6,7 @@ use Rattle.rx_nfa.specs.Built.{Built}
 use Rattle.rx_nfa.specs.Directed.{build_class, build_all, build_joined, scalar_digits}
 use Rattle.rx_nfa.specs.Ranges.{cost_of_class}
 use Rattle.rx_nfa.proofs.lemmas.parts.AccountedLemmas.{cost_of_class-accounted}
+use Rattle.rx_class.specs.Ranges.{AreScalarRanges}
 use Rattle.rx_nfa.proofs.builder.Builder.push_scalars.Goals as goal
 
 pub compile_class_backwards-requires-clause-fits : goal.compile_class_backwards-requires-clause-fits
@@ -35,3 +36,6 @@ returns-clause-built c =
     (λ b. IfOk c.push_scalars_forwards.result (λ start. Built (build_class b (scalar_ranges c.args.scalars.now)) c.args.next c.args.self.now
     c.push_scalars_forwards.new.self start)) (sym c.if-backwards.false)
     c.push_scalars_forwards.ensures.built
+
+pub compile_class_backwards-requires-clause-fewest : goal.compile_class_backwards-requires-clause-fewest
+compile_class_backwards-requires-clause-fewest c = subst AreScalarRanges (sym c.ranges-ranges.ensures.value) c.ranges-ranges.ensures.fewest

@@ -1,10 +1,11 @@
-use Rattle.std.proofs.Common.{◌≡◌, subst, refl, ap, arith, length}
+use Rattle.std.proofs.Common.{◌≡◌, subst, refl, ap, arith, length, sym}
 use Rattle.rx_model.specs.Graph.{build_state, set}
 use Rattle.rx_model.specs.Text.{scalar_ranges}
 use Rattle.rx_nfa.specs.Built.{Built}
 use Rattle.rx_nfa.specs.Draft.{Draft}
 use Rattle.rx_nfa.proofs.lemmas.parts.SetLemmas.{Built-scalars, AreInRange-adds}
 use Rattle.rx_nfa.proofs.lemmas.parts.AccountedLemmas.{cost_of_class-accounted}
+use Rattle.rx_class.specs.Ranges.{AreScalarRanges}
 use Rattle.rx_nfa.proofs.builder.Builder.push_scalars_forwards.Goals as goal
 
 pub compile_class-requires-clause-room : goal.compile_class-requires-clause-room
@@ -44,3 +45,6 @@ returns-clause-count c =
     let long : length c.self.inside.states.items ≡ length c.args.self.now.states = ap (λ (d : Draft). length d.states) c.self.view_is in
     let cost = cost_of_class-accounted c.args.scalars.now c.ranges-ranges.ensures.fewest in
     omega arith
+
+pub compile_class-requires-clause-fewest : goal.compile_class-requires-clause-fewest
+compile_class-requires-clause-fewest c = subst AreScalarRanges (sym c.ranges-ranges.ensures.value) c.ranges-ranges.ensures.fewest

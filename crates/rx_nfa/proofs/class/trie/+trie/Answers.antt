@@ -10,6 +10,7 @@ use Rattle.rx_nfa.specs.Trie.{IsBlock, IsRow}
 use Rattle.rx_nfa.proofs.lemmas.classes.RowLemmas.{Ascends-more, IsReader-grows, IsReader-lower, AddsReaders-same, AddsReaders-trans, RoutesBelow-none}
 use Rattle.rx_nfa.proofs.lemmas.classes.RangesLemmas.{size_of_block-pos, size_of_block-suc, IsRest-same, IsRest-trans, IsRest-later}
 use Rattle.rx_nfa.proofs.lemmas.classes.BlockLemmas.{IsRow-none, IsRow-map, IsBlock-same, IsBlock-none, IsBlock-row, IsRow-next, IsReady-grows, aligned-part, aligned-at, aligned-64, HasEnd-deep, HasEnd-counts, covered-depth, CoversUpTo-less, count-one, count-next, count-within, row-below}
+use Rattle.rx_nfa.proofs.lemmas.parts.AccountedLemmas.{times-more}
 use Rattle.rx_nfa.proofs.class.trie.+trie.Goals as goal
 
 pub block-coverage_of-requires-clause-some : goal.block-coverage_of-requires-clause-some
@@ -262,3 +263,38 @@ row-returns-in_err-add_target-clause-built t c = IfOk-from_err c.from_residual-i
 
 pub row-returns-in_err-add_target-clause-count : goal.row-returns-in_err-add_target-clause-count
 row-returns-in_err-add_target-clause-count t c = IfOk-from_err c.from_residual-in_err-add_target.result _ c.from_residual-in_err-add_target.ensures.0
+
+pub row-overflow_mul-at : goal.row-overflow_mul-at
+row-overflow_mul-at t c =
+    let size = c.block_size-size.ensures in
+    let small = c.requires.small in
+    let fits = times-more c.loop-k.k c.args.children.len (size_of_block c.args.children.depth) c.loop-k-test.true in
+    rw size (omega arith)
+
+pub row-overflow_add-at : goal.row-overflow_add-at
+row-overflow_add-at t c =
+    let size = c.block_size-size.ensures in
+    let small = c.requires.small in
+    let fits = times-more c.loop-k.k c.args.children.len (size_of_block c.args.children.depth) c.loop-k-test.true in
+    rw size (omega arith)
+
+pub row-returns-clause-ascends : goal.row-returns-clause-ascends
+row-returns-clause-ascends t c =
+    let ended : c.loop-k.k ≡ c.args.children.len = grind (arith, common_steps) in
+    subst (λ n. Ascends 0 (c.args.children.first + n) c.loop-k.transitions.items) ended c.loop-k.invariant.ascends
+
+pub row-returns-clause-count : goal.row-returns-clause-count
+row-returns-clause-count t c =
+    let ended : c.loop-k.k ≡ c.args.children.len = grind (arith, common_steps) in
+    subst (λ n. length c.loop-k.states.items ≤ length c.args.states.now.items
+    + c.args.children.depth * ends_in c.args.ranges.now c.args.children.start (c.args.children.start + n * size_of_block c.args.children.depth)) ended
+    c.loop-k.invariant.count
+
+pub row-returns-clause-closed : goal.row-returns-clause-closed
+row-returns-clause-closed t c = c.loop-k.invariant.closed
+
+pub block-returns-in-Everything-clause-grows : goal.block-returns-in-Everything-clause-grows
+block-returns-in-Everything-clause-grows t c = AddsReaders-same c.args.states.now.items
+
+pub block-returns-in-Nothing-clause-grows : goal.block-returns-in-Nothing-clause-grows
+block-returns-in-Nothing-clause-grows t c = AddsReaders-same c.args.states.now.items

@@ -1,9 +1,10 @@
-use Rattle.std.proofs.Common.{◌≡◌, ◌≤◌, ◌+◌, ◌-◌, ◌∷◌, [], ◌∙◌, ap, arith, length, slice_index}
+use Rattle.std.proofs.Common.{◌≡◌, ◌≤◌, ◌+◌, ◌-◌, ◌∷◌, [], ◌∙◌, ap, arith, length, slice_index, refl, sym, subst}
 use Rattle.std.proofs.lemmas.Result.{IfOk-from_err}
 use Rattle.std.proofs.lemmas.Grind.{common_steps}
 use Rattle.std.proofs.lemmas.List.{length_push}
-use Rattle.rx_nfa.proofs.lemmas.classes.RowLemmas.{AddsReaders-trans, RoutesBelow-one}
+use Rattle.rx_nfa.proofs.lemmas.classes.RowLemmas.{AddsReaders-trans, RoutesBelow-one, AddsReaders-same}
 use Rattle.rx_nfa.proofs.lemmas.classes.BlockLemmas.{IsReady-push, whole-inside}
+use Rattle.rx_nfa.specs.Row.{Ascends}
 use Rattle.rx_nfa.proofs.class.trie.reach.Goals as goal
 
 pub loop-alloc-preserved : goal.loop-alloc-preserved
@@ -80,3 +81,22 @@ returns-in_err-push-2-clause-ready c = IfOk-from_err c.from_residual-in_err-push
 
 pub returns-in_err-push-2-clause-count : goal.returns-in_err-push-2-clause-count
 returns-in_err-push-2-clause-count c = IfOk-from_err c.from_residual-in_err-push-2.result _ c.from_residual-in_err-push-2.ensures.0
+
+pub loop-alloc-init : goal.loop-alloc-init
+loop-alloc-init c = record {
+  grows = AddsReaders-same c.args.states.now.items;
+  closed = λ base next ready lt closed. closed;
+  ready = λ base next ready. ready;
+  longer = omega arith;
+  most = omega arith;
+  count = omega arith;
+}
+
+pub push_reader-requires-clause-ascends : goal.push_reader-requires-clause-ascends
+push_reader-requires-clause-ascends c =
+    let row : c.push.new.self.items ≡ record { start = 0x80; end = 0xBF; next = c.index.result.now } ∷ [] =
+    rw (c.in_ok-push.ensures.items, c.new-transitions.ensures.items) refl in
+    subst (Ascends 0 256) (sym row) (omega arith, omega arith, omega arith)
+
+pub returns-clause-closed : goal.returns-clause-closed
+returns-clause-closed c = c.loop-alloc.invariant.closed

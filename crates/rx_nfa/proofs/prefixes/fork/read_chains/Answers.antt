@@ -1,7 +1,7 @@
 use Rattle.std.proofs.Common.{◌≡◌, ◌≤◌, ◌+◌, [], ◌∷◌, ◌++◌, ◌∙◌, sym, ap, subst, arith, take}
 use Rattle.std.specs.Prelude.{All, map, IfSome}
 use Rattle.std.specs.Vec.{vec_items}
-use Rattle.std.proofs.lemmas.List.{map-append, take_more}
+use Rattle.std.proofs.lemmas.List.{map-append, take_more, take_all}
 use Rattle.std.proofs.lemmas.List.Elements.{All-nil}
 use Rattle.rx_nfa.specs.Forks.{IsChainFrom}
 use Rattle.rx_nfa.specs.Prefixes.{IsWord, Reads}
@@ -72,4 +72,16 @@ loop-head-preserved c =
           (take c.loop-head.head-index c.args.heads.now ++ c.head-item.result ∷ [])) (sym items)
           (chains-read states floor root low now head next last before words word chain lower least inv.reads));
       last = λ some. chains-last states floor root low now head next last before words word chain lower least;
+    }
+
+pub returns : goal.returns
+returns c =
+    let inv = c.loop-head.invariant in
+    let whole : take c.loop-head.head-index c.args.heads.now ≡ c.args.heads.now = take_all c.loop-head.head-index c.args.heads.now (omega arith) in
+    record {
+      above = inv.above;
+      below = inv.below;
+      words = inv.words;
+      reads = subst (λ qs. Reads c.args.states.now c.loop-head.low c.args.root c.args.next qs (map vec_items c.loop-head.words.items)) whole inv.reads;
+      last = λ some. inv.last (omega arith);
     }

@@ -1,4 +1,4 @@
-use Rattle.std.proofs.Common.{◌≡◌, ◌≤◌, ◌<◌, ◌∙◌, refl, sym, subst, arith, length}
+use Rattle.std.proofs.Common.{◌≡◌, ◌≤◌, ◌<◌, ◌∙◌, refl, sym, subst, arith, length, ap}
 use Rattle.std.proofs.lemmas.Result.{IfOk-from_err}
 use Rattle.std.specs.Prelude.{All}
 use Rattle.std.proofs.lemmas.List.Elements.{All-weaker}
@@ -7,6 +7,8 @@ use Rattle.rx_nfa.specs.Named.{Spans, last_in}
 use Rattle.rx_nfa.specs.Prefixes.{LeadsInto}
 use Rattle.rx_nfa.proofs.lemmas.prefixes.NamedLemmas.{Widens-trans, leads-wider, named-next}
 use Rattle.rx_nfa.proofs.lemmas.runs.StateLemmas.{state-known}
+use Rattle.std.proofs.lemmas.List.{length-replicate}
+use Rattle.rx_nfa.specs.declared.prefixes.named.Named.{Named}
 use Rattle.rx_nfa.proofs.prefixes.named.named_by.Goals as goal
 
 pub returns-clause-named : goal.returns-clause-named
@@ -59,3 +61,9 @@ loop-by-preserved c =
       each = named-next c.args.states.now c.loop-by.named.items new by noted.wider before.each
           (subst (LeadsInto (Spans new by)) (sym known) noted.spans);
     }
+
+pub loop-by-init : goal.loop-by-init
+loop-by-init c = record {
+  long = ap length (c.in_ok-named.ensures.items_if_clones_equal (λ y h. h)) ∙ length-replicate {A = Named} _ _;
+  each = λ r lt. absurd (omega arith);
+}

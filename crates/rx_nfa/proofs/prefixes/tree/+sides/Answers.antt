@@ -7,7 +7,7 @@ use Rattle.std.proofs.lemmas.List.Elements.{All-map}
 use Rattle.rx_nfa.specs.Prefixes.{IsWord, rests}
 use Rattle.rx_nfa.specs.Row.{Ascends}
 use Rattle.rx_nfa.specs.Trees.{IsTargetOf, ReadsByTree, LeadsByTree}
-use Rattle.rx_nfa.proofs.lemmas.prefixes.GrowLemmas.{Grown-same, Grown-trans, reads-both, reads-grown, reads-nothing, rests-words, row-reads, reader-branch, led-targets, led-more, map-more, map-split, sub-words, between-none}
+use Rattle.rx_nfa.proofs.lemmas.prefixes.GrowLemmas.{Grown-same, Grown-trans, reads-both, reads-grown, reads-nothing, rests-words, row-reads, reader-branch, led-targets, led-more, map-more, map-split, sub-words, between-none, between-more}
 use Rattle.rx_nfa.proofs.prefixes.tree.+sides.Goals as goal
 
 pub chunk-returns-then-levels-gt0-clause-reads : goal.chunk-returns-then-levels-gt0-clause-reads
@@ -383,3 +383,25 @@ branch-returns-clause-tree t c = c.in_ok-start.ensures.tree
 
 pub branch-returns-clause-grown : goal.branch-returns-clause-grown
 branch-returns-clause-grown t c = Grown-trans c.args.tree.now c.sides.new.tree c.join.new.tree c.in_ok-starts.ensures.grown c.in_ok-start.ensures.grown
+
+pub end_chunk-returns-then-len-gt1-clause-long : goal.end_chunk-returns-then-len-gt1-clause-long
+end_chunk-returns-then-len-gt1-clause-long t c =
+    let long : 1 < length (vec_items c.index-words-last.result) = omega (arith, c.index-words-last.result.ok.0) in
+    between-more vec_items (λ w. 1 < length (vec_items w)) c.args.words.now c.args.from c.args.last c.index-words-last.result c.requires.upto
+    c.requires.inside c.requires.long (subst (λ w. 1 < length (vec_items w)) c.index-words-last.is long)
+
+pub end_chunk-returns-then-len-gt1-clause-tree : goal.end_chunk-returns-then-len-gt1-clause-tree
+end_chunk-returns-then-len-gt1-clause-tree t c = c.requires.tree
+
+pub end_chunk-returns-then-len-gt1-clause-grown : goal.end_chunk-returns-then-len-gt1-clause-grown
+end_chunk-returns-then-len-gt1-clause-grown t c = Grown-same c.args.tree.now
+
+pub end_chunk-returns-then-len-gt1-clause-reads : goal.end_chunk-returns-then-len-gt1-clause-reads
+end_chunk-returns-then-len-gt1-clause-reads t c = λ h. h
+
+pub branch-returns-then-words-eq0-clause-grown : goal.branch-returns-then-words-eq0-clause-grown
+branch-returns-then-words-eq0-clause-grown t c = Grown-same c.args.tree.now
+
+pub branch-returns-clause-reads : goal.branch-returns-clause-reads
+branch-returns-clause-reads t c =
+    c.in_ok-start.ensures.reads (map vec_items c.args.words.now) c.requires.words c.in_ok-starts.ensures.reads
