@@ -8,3 +8,4 @@ pub mod ByteClassLemmas
 pub mod CaptureLemmas
 pub mod FindLemmas
 pub mod PatternSetLemmas
+pub mod NameLemmas
