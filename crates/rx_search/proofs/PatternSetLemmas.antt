@@ -41,7 +41,7 @@ pub progress-yields : (items : List ℕ) (made : Option ℕ) (left : List ℕ) �
     → MakesProgress (λ (it : List ℕ). Unit {0}) (item_count (λ (it : List ℕ). it)) items made left
 progress-yields items None left gives = record { on = λ _. tt; keeps = tt; rests = λ _. tt }
 progress-yields items (Some q) left gives = record {
-    on = λ _. (tt, tt, subst (λ ns. length left < length ns) (sym gives) (omega arith));
-    keeps = tt;
-    rests = λ _. tt
-  }
+  on = λ _. (tt, tt, subst (λ ns. length left < length ns) (sym gives) (omega arith));
+  keeps = tt;
+  rests = λ _. tt;
+}

@@ -16,7 +16,7 @@ no_hyphen c differs =
     ap not no
 
 pub loop-n-init : goal.loop-n-init
-loop-n-init c = record { so_far = omega arith; within = omega arith; }
+loop-n-init c = record { so_far = omega arith; within = omega arith }
 
 pub returns-then-named-n-eq45-clause-value : goal.returns-then-named-n-eq45-clause-value
 returns-then-named-n-eq45-clause-value c =

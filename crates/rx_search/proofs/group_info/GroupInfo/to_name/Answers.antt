@@ -17,7 +17,7 @@ returns-in_err-name c =
     let index : c.args.group ≡ suc c.in_ok-index.index = omega (arith, c.in_ok-index.ensures) in
     ap option_copied c.from_residual-in_err-name.ensures
     ∙ sym (name_at-past c.args.self.now c.args.pid c.args.group c.in_ok-index.index c.in_ok-names.names.now c.in_ok-names.ensures index
-        c.in_err-name.ensures.lookup.3)
+    c.in_err-name.ensures.lookup.3)
 
 pub returns-in-None : goal.returns-in-None
 returns-in-None c =
@@ -25,7 +25,7 @@ returns-in-None c =
     let lookup = c.in_ok-name.ensures.lookup in
     let there = slice_get_read c.in_ok-names.names.now _ c.in_ok-index.index c.in_ok-name.field-0.now refl lookup.3.0 lookup.1 in
     sym (name_at-there c.args.self.now c.args.pid c.args.group c.in_ok-index.index c.in_ok-names.names.now c.in_ok-name.field-0.now
-        c.in_ok-names.ensures index there ∙ ap (option_map string_bytes) c.in-None.is)
+    c.in_ok-names.ensures index there ∙ ap (option_map string_bytes) c.in-None.is)
 
 pub returns-in-Some : goal.returns-in-Some
 returns-in-Some c =
@@ -34,4 +34,4 @@ returns-in-Some c =
     let there = slice_get_read c.in_ok-names.names.now _ c.in_ok-index.index c.in_ok-name.field-0.now refl lookup.3.0 lookup.1 in
     ap Some c.as_str.ensures.value
     ∙ sym (name_at-there c.args.self.now c.args.pid c.args.group c.in_ok-index.index c.in_ok-names.names.now c.in_ok-name.field-0.now
-        c.in_ok-names.ensures index there ∙ ap (option_map string_bytes) c.in-Some.is)
+    c.in_ok-names.ensures index there ∙ ap (option_map string_bytes) c.in-Some.is)

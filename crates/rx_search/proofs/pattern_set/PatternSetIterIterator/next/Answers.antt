@@ -18,10 +18,11 @@ returns-then-is_there-clause-goes c =
 pub loop-is_there-preserved : goal.loop-is_there-preserved
 loop-is_there-preserved c =
     let it = c.loop-is_there.self-inside in
-    let e = c.in-Some.ensures.lookup in
-    (sym (to_come-lacks it.which.now it.next c.in-Some.is_there.now (slice_get_read it.which.now _ it.next c.in-Some.is_there.now refl e.3.0 e.1) c.if-is_there.false)
-     ∙ c.loop-is_there.invariant.0,
-     c.loop-is_there.invariant.1)
+    let e = c.in-Some.ensures.lookup in (
+      sym (to_come-lacks it.which.now it.next c.in-Some.is_there.now (slice_get_read it.which.now _ it.next c.in-Some.is_there.now refl e.3.0 e.1) c.if-is_there.false)
+          ∙ c.loop-is_there.invariant.0,
+      c.loop-is_there.invariant.1,
+    )
 
 pub returns-clause-steps : goal.returns-clause-steps
 returns-clause-steps c =
